@@ -1,0 +1,4 @@
+pub mod Chains
+pub mod Below
+pub mod Counts
+pub mod BookFacts
