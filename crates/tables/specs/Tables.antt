@@ -2,7 +2,7 @@
 use mathlib.Core.Path.{_≡_}
 use mathlib.Core.Bool.{cond, _&&_}
 use mathlib.Core.List.{List}
-use Prim.Native.Nat.{ℕ, _+_, _*_, _/_, _≤_, min}
+use Prim.Native.Nat.{ℕ, _+_, _*_, _/_, _≤_, _<_, min}
 use lib.Dec.{ltb}
 use lib.ListN.{getD, length}
 use lib.IntN.{ℤ, pos}
@@ -34,13 +34,14 @@ pub record Cleared (xs : List ℤ) (t : Table) : Type 0 where
   pub zero : AllZero t
   pub past : (k : ℕ) → 64 * rows-of t ≤ k → getD (items t) k (pos 0) ≡ getD xs k (pos 0)
 
--- the number of one cell is new, and no other changed
-pub record Wrote (t u : Table) (a s : ℕ) (n : ℤ) : Type 0 where
-  pub here : at u a s ≡ n
-  pub elsewhere : (b r : ℕ) → (b ≡ a → r ≡ s → ⊥) → at u b r ≡ at t b r
-
--- as many numbers and rows as before, and the memory past them as it was
+-- as many numbers and rows as before, and the memory past the rows as it was
 pub record Untouched (t u : Table) : Type 0 where
   pub long : length (items u) ≡ length (items t)
   pub rows : rows-of u ≡ rows-of t
   pub past : (k : ℕ) → 64 * rows-of t ≤ k → getD (items u) k (pos 0) ≡ getD (items t) k (pos 0)
+
+-- from t to u: the number of one cell, where there is such a cell, is n, and nothing else changed
+pub record Wrote (t u : Table) (a s : ℕ) (n : ℤ) : Type 0 where
+  pub here : s < 64 → a < rows-of t → at u a s ≡ n
+  pub elsewhere : (b r : ℕ) → (b ≡ a → r ≡ s → ⊥) → at u b r ≡ at t b r
+  pub untouched : Untouched t u

@@ -1,10 +1,10 @@
 // Signed numbers by account and series.
 ghost use mathlib.Core.Path.{_≡_};
-ghost use Prim.Native.Nat.{ℕ, _<_};
+ghost use Prim.Native.Nat.{ℕ};
 ghost use Rattle.std.specs.Of.Vec.{vec-items};
 ghost use Rattle.std.specs.Orderings.{Decides};
 ghost use Rattle.std.specs.Vec.{made};
-ghost use Rattle.tables.specs.Tables.{at, rows-of, items, AllZero, Cleared, Wrote, Untouched};
+ghost use Rattle.tables.specs.Tables.{at, rows-of, items, AllZero, Cleared, Wrote};
 use std::alloc::AllocError;
 use std::alloc::Global;
 
@@ -64,9 +64,7 @@ impl Table {
 
     // Sets the number of a cell. Where there is none, nothing changes.
     pub fn put(&mut self, account: usize, series: usize, n: i64)
-        ensures wrote { λ _. ⌜ (series < 64 → account < rows-of (now (self .entry)) → Wrote (now (self .entry)) (now (self .exit)) account series n) ⌝ }
-        ensures untouched { λ _. ⌜ Untouched (now (self .entry)) (now (self .exit)) ⌝ }
-        ensures elsewhere { λ _. ⌜ ((b r : ℕ) → (b ≡ account → r ≡ series → ⊥) → at (now (self .exit)) b r ≡ at (now (self .entry)) b r) ⌝ }
+        ensures { λ _. ⌜ Wrote (now (self .entry)) (now (self .exit)) account series n ⌝ }
     {
         if series >= SERIES || account >= self.rows() {
             return;
