@@ -8,7 +8,7 @@ use lib.Dec.{eqb}
 use lib.IntN.{ℤ, pos, _+ℤ_, _-ℤ_}
 use lib.Signed.{_≤ℤ_}
 use Rattle.std.specs.declared.result.Result.the-variants.{Ok, Err}
-use Rattle.std.proofs.shelf.Tests.{false≢true}
+use Rattle.std.proofs.shelf.Tests.{false≢true, cond-true}
 use Rattle.std.proofs.shelf.Signed.{ints, clamps}
 use Rattle.ledger.specs.declared.actions.Action.{Action}
 use Rattle.ledger.specs.declared.actions.Action.the-variants.{Fill, PlaceBuy, PlaceSell, CancelBuy, CancelSell, ExecuteBuy, ExecuteSell, AddCover, TakeCover}
@@ -54,6 +54,14 @@ module _ (taken capacity : ℕ) (held : ℕ → ℕ → ℤ) where
       let f = unless-ok (not (isFull capacity held i)) Full (Ok (flat sum)) q (d .1) in
       let e = f .1 in
       record { checks = checked-ok taken i (a .0) (a .1); fill = is-fill _ (b .0); reach = within-in _ (d .0); room = f .0; is = cc }
+
+  -- a fill that passes every check is obeyed
+  pub book-yes : (i : Instruction) (u : Unit {0}) → checked taken i ≡ Ok u → isFill (i .action) ≡ true → within (held (i .account) (i .series) +ℤ i .amount) ≡ true
+      → not (isFull capacity held i) ≡ true → book-answer taken capacity held i ≡ Ok (flat (held (i .account) (i .series) +ℤ i .amount))
+  book-yes i u a b d f =
+      let sum = held (i .account) (i .series) +ℤ i .amount in
+      let next : Unit {0} → Answer = λ _. unless (isFill (i .action)) NoTaker (unless (within sum) Reach (unless (not (isFull capacity held i)) Full (Ok (flat sum)))) in
+      ap (λ m. m then next) a ∙ cond-true _ _ _ b ∙ cond-true _ _ _ d ∙ cond-true _ _ _ f
 
   flat-ranged : (h : ℤ) → Within h → Ranged (flat h)
   flat-ranged h w = record { ordered = omega (arith, ints); held-in = w; low-in = w; high-in = w }

@@ -69,7 +69,8 @@ impl Table {
         if series >= SERIES || account >= self.rows() {
             return;
         }
-        self.numbers[SERIES * account + series] = n;
+        let k = SERIES * account + series;
+        self.numbers[k] = n;
     }
 
     pub fn is_zero(&self) -> bool
