@@ -1,0 +1,2 @@
+// A day's lines carried through a ledger, and the sheet of a book.
+pub mod sheets;
