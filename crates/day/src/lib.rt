@@ -1,2 +1,3 @@
 // A day's lines carried through a ledger, and the sheet of a book.
+pub mod cuts;
 pub mod sheets;
