@@ -1,3 +1,4 @@
-pub mod Listings
-pub mod Slices
 pub mod Steps
+pub mod Listings
+pub mod Opening
+pub mod Slices

@@ -1,20 +1,25 @@
 -- The list of held cells, one more at a time. Assumes nothing.
 use mathlib.Core.Path.{_≡_, refl, sym, ap, subst, _∙_}
-use mathlib.Core.List.{List, [], _∷_, _++_}
+use mathlib.Core.List.{List, [], _∷_, _++_, map}
 use mathlib.Core.Logic.{_⊎_, inl, inr, ⊎-elim}
 use Prim.Native.Nat.{ℕ, _+_, _*_, _≤_, _<_}
 use native.Mathlib.Omega.{arith}
-use lib.ListN.{length, getD}
+use lib.ListN.{length, getD, take}
 use lib.IntN.{ℤ, pos}
 use Rattle.std.specs.declared.option.Option.{Option}
 use Rattle.std.specs.declared.option.Option.the-variants.{Some, None}
 use Rattle.std.proofs.shelf.Tests.{cases-lt}
-use Rattle.std.proofs.shelf.Lists.{length-push, getD-push, getD-append-left}
+use Rattle.std.proofs.shelf.Lists.{append-assoc, length-push, getD-push, getD-append-left, map-push, take-more}
 use Rattle.ledger.specs.declared.cells.Cell.{Cell}
 use Rattle.ledger.specs.declared.books.Holding.{Holding}
 use Rattle.ledger.specs.Meanings.{Meaning, Lawful}
 use Rattle.ledger.specs.Listing.{place, Held, Next, NoneHeld, FirstHeld}
-use Rattle.day.specs.Sheets.{nothing, nth, place-of, InGrid, Listed, Listing}
+use Rattle.lines.specs.Output.{SheetLine}
+use Rattle.lines.specs.declared.writing.OutputLine.{OutputLine}
+use Rattle.day.specs.Days.{buffer}
+use Rattle.day.specs.Runs.{Each}
+use Rattle.day.specs.Sheets.{nothing, nth, place-of, InGrid, Listed, Listing, Adds}
+use Rattle.day.proofs.Steps.{each-more}
 
 -- a held cell has an account and a series below 64
 pub inside : (m : Meaning) → Lawful m → (from : ℕ) (r : Option Holding) → FirstHeld (m .cell) from r → InGrid r
@@ -90,3 +95,16 @@ module _ (cell : ℕ → ℕ → Cell) (from : ℕ) (hs : List Holding) (before 
               (cases-lt (place a s) (place-of h)))
             (cases-lt (place a s) from);
           below = split (λ n g. place-of g < place-of h + 1) (λ k l. let b = before .below k l in let o = next .onward in omega arith) (omega arith) }
+
+-- one more line for one more cell
+pub adds-more : (held : List Holding) (lines all more : List OutputLine) (h : Holding) (line : OutputLine) → Adds held lines all → SheetLine h (buffer line) → more ≡ all ++ line ∷ []
+    → Adds (held ++ h ∷ []) lines more
+adds-more held lines all more h line a s e = record {
+  sheet = a .sheet ++ line ∷ [];
+  behind = e ∙ ap (λ ys. ys ++ line ∷ []) (a .behind) ∙ append-assoc lines (a .sheet) (line ∷ []);
+  shows = subst (Each SheetLine (held ++ h ∷ [])) (sym (map-push buffer (a .sheet) line)) (each-more SheetLine held (map buffer (a .sheet)) h (buffer line) (a .shows) s) }
+
+-- a loop over the cells goes on by the next one
+pub adds-next : (held : List Holding) (k : ℕ) (d : Holding) (lines all more : List OutputLine) (line : OutputLine) → k < length held → Adds (take k held) lines all
+    → SheetLine (getD held k d) (buffer line) → more ≡ all ++ line ∷ [] → Adds (take (k + 1) held) lines more
+adds-next held k d lines all more line l a s e = subst (λ hs. Adds hs lines more) (sym (take-more held k d l)) (adds-more (take k held) lines all more (getD held k d) line a s e)

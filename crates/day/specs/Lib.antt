@@ -1,3 +1,5 @@
 pub mod Cuts
+pub mod Days
 pub mod Runs
 pub mod Sheets
+pub mod Stacks

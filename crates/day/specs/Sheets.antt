@@ -1,6 +1,6 @@
 -- The sheet of a book. Assumes nothing.
 use mathlib.Core.Path.{_≡_}
-use mathlib.Core.List.{List}
+use mathlib.Core.List.{List, _++_, map}
 use Prim.Native.Nat.{ℕ, _+_, _*_, _<_}
 use lib.ListN.{length, getD}
 use lib.IntN.{ℤ, pos}
@@ -9,6 +9,10 @@ use Rattle.std.specs.declared.option.Option.the-variants.{Some, None}
 use Rattle.ledger.specs.declared.cells.Cell.{Cell}
 use Rattle.ledger.specs.declared.books.Holding.{Holding}
 use Rattle.ledger.specs.Listing.{place, Held}
+use Rattle.lines.specs.Output.{SheetLine}
+use Rattle.lines.specs.declared.writing.OutputLine.{OutputLine}
+use Rattle.day.specs.Days.{buffer}
+use Rattle.day.specs.Runs.{Each}
 
 abbrev pub nothing : Holding
 nothing = record { account = 0; series = 0; held = pos 0 }
@@ -36,3 +40,15 @@ pub record Listing (cell : ℕ → ℕ → Cell) (hs : List Holding) : Type 0 wh
   pub rising : (j k : ℕ) → j < k → k < length hs → place-of (nth hs j) < place-of (nth hs k)
   pub held : (k : ℕ) → k < length hs → Held cell (nth hs k)
   pub all : (a s : ℕ) → s < 64 → (cell a s .held ≡ pos 0 → ⊥) → Listed hs a s
+
+-- a line for each cell of the list, behind the lines that are there
+pub record Adds (held : List Holding) (lines all : List OutputLine) : Type 0 where
+  pub sheet : List OutputLine
+  pub behind : all ≡ lines ++ sheet
+  pub shows : Each SheetLine held (map buffer sheet)
+
+-- a line for each held cell, once, in the order of places, behind the lines that are there
+pub record AddsSheet (cell : ℕ → ℕ → Cell) (lines all : List OutputLine) : Type 0 where
+  pub held : List Holding
+  pub listing : Listing cell held
+  pub adds : Adds held lines all

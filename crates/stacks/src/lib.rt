@@ -4,17 +4,25 @@
 mod tests {
     use cover::CoverLayer;
     use cover::CoverLedger;
-    use entries::Entry;
-    use entries::EntryBook;
-    use entries::EntryLedger;
+    use entries::book::EntryBook;
+    use entries::book::carries::EntryLedger;
+    use entries::records::Entry;
+    use entries::records::EntryDebug;
+    use entries::records::EntryPartialEq;
     use foreign::SpanLayer;
     use foreign::SpanLedger;
     use grid::GridBook;
     use grid::GridLedger;
     use ledger::actions::Action;
+    use ledger::cells::CellDebug;
+    use ledger::cells::CellPartialEq;
     use ledger::cells::Instruction;
     use ledger::cells::Quote;
+    use ledger::cells::QuoteDebug;
+    use ledger::cells::QuotePartialEq;
     use ledger::faults::Fault;
+    use ledger::faults::FaultDebug;
+    use ledger::faults::FaultPartialEq;
     use ledger::faults::Reason;
     use ledger::ledgers::Ledger;
     use orders::OrderLayer;

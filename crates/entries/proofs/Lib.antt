@@ -1,0 +1,5 @@
+pub mod Holds
+pub mod Orders
+pub mod Writes
+pub mod Exchanges
+pub mod Whole

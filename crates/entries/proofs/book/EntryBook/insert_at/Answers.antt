@@ -1,0 +1,23 @@
+use native.Mathlib.Omega.{arith}
+use Prim.Native.Nat.{_-_}
+use Rattle.std.specs.Of.Vec.{vec-items, vec-len}
+use Rattle.entries.proofs.Whole.{book-from, exchange-keeps, put-ordered, put-wrote}
+use Rattle.entries.proofs.book.EntryBook.insert_at.Needs as need
+
+pub ghost-self : need.ghost-self
+ghost-self c =
+    let x = c .args .self .now in
+    let v = c .exchange .last .records in
+    book-from v _ (vec-len (x .records)) (c .exchange .ensures .len)
+    (put-ordered x (c .args .k) (c .capacity-last .result) (c .args .e) (c .capacity-last .ensures) (c .pre .gap) (c .pre .live) (c .pre .room) (vec-items v) (c .exchange .ensures .items))
+
+pub returns : need.returns
+returns c =
+    let x = c .args .self .now in
+    let within = c .pre .gap .within in
+    let room = c .pre .room in
+    let end = c .capacity-last .ensures in
+    record {
+      wrote = put-wrote x (c .args .k) (c .capacity-last .result) (c .args .e) end (c .pre .gap) (c .pre .live) room _ (c .exchange .ensures .items) (c .exchange .ensures .len);
+      kept = exchange-keeps x _ (c .capacity-last .result - 1) (c .args .k) (c .capacity-last .result) _ end (omega arith) (omega arith) (c .exchange .ensures .items) (c .exchange .ensures .len);
+    }

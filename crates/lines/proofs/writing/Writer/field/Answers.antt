@@ -1,0 +1,7 @@
+use borrow.Author.Needs.{needs}
+use native.Mathlib.Omega.{arith}
+use Rattle.lines.proofs.Buffers.{appends-then}
+use Rattle.lines.proofs.writing.Writer.field.Needs as need
+
+pub returns : need.returns
+returns c = appends-then (c .byte .ensures) (c .number .ensures)
