@@ -2,17 +2,15 @@
 use mathlib.Core.Path.{_≡_, refl, sym, ap, subst, _∙_}
 use mathlib.Core.List.{List, [], _∷_, _++_, append-nil}
 use mathlib.Core.Logic.{_⊎_, inl, inr}
-use Prim.Native.Nat.{ℕ, suc, _+_, _≤_}
+use Prim.Native.Nat.{ℕ, suc}
 use native.Mathlib.Omega.{arith}
 use lib.IntN.{ℤ, pos, negsuc}
-use Rattle.std.specs.declared.option.Option.{Option}
-use Rattle.std.specs.declared.option.Option.the-variants.{Some, None}
 use Rattle.std.specs.shelf.Lists.{All}
 use Rattle.std.proofs.shelf.Elements.{all-weaker}
 use Rattle.lines.specs.declared.fields.Kind.{Kind}
 use Rattle.lines.specs.declared.fields.Kind.the-variants.{Plain, Signed}
-use Rattle.lines.specs.Fields.{Digit, value, Decimal, Short, Field, Parts}
-use Rattle.lines.specs.Reading.{first, Fielded, Ends}
+use Rattle.lines.specs.Fields.{Digit, Short, Field, Parts}
+use Rattle.lines.specs.Reading.{first, Ends}
 
 -- where two cuts of one text lie, the one front begins the other
 pub cut : (x y f w : List ℕ) → x ++ y ≡ f ++ w → ((u : List ℕ) × (f ≡ x ++ u) × (y ≡ u ++ w)) ⊎ ((b : ℕ) × (u : List ℕ) × (x ≡ f ++ b ∷ u) × (w ≡ b ∷ u ++ y))
@@ -31,9 +29,11 @@ all-middle P (x ∷ xs) b ys h = all-middle P xs b ys (h .1)
 abbrev pub NoSpace : ℕ → Type 0
 NoSpace b = b ≡ 32 → ⊥
 
+-- digits are no spaces
 short-spaces : (n : ℕ) (ds : List ℕ) → Short n ds → All NoSpace ds
 short-spaces n ds h = all-weaker Digit NoSpace (λ b d e. omega (arith, d .0)) ds (h .decimal .digits)
 
+-- nor is a minus sign
 pub no-spaces : (k : Kind) (z : ℤ) (f : List ℕ) → Field k z f → All NoSpace f
 no-spaces Plain z f h = short-spaces (h .0) f (h .2)
 no-spaces Signed (pos n) f h = short-spaces n f h
@@ -67,8 +67,9 @@ same-field k z f y reads ends ks (x ∷ xs) u same h =
     let e : 32 ∷ f ++ u ≡ 32 ∷ g ++ w = h .2 in
     let t : f ++ u ≡ g ++ w = cc in
     elim (cut f u g w t) [
-      inl c ↦ at-or-after (c .0) g w (h .3) (h .4) (c .1) (c .2)
-    | inr c ↦ absurd (all-middle NoSpace g (c .0) (c .1) (subst (All NoSpace) (c .2) (no-spaces k z f reads)) (fielded-first ks xs (c .0) (c .1 ++ u) (subst (Parts ks xs) (c .3) (h .4)))) ]
+      | inl c ↦ at-or-after (c .0) g w (h .3) (h .4) (c .1) (c .2)
+      | inr c ↦ absurd (all-middle NoSpace g (c .0) (c .1) (subst (All NoSpace) (c .2) (no-spaces k z f reads)) (fielded-first ks xs (c .0) (c .1 ++ u) (subst (Parts ks xs) (c .3) (h .4))))
+    ]
   where
     at-or-after : (v g w : List ℕ) → Field k x g → Parts ks xs w → g ≡ f ++ v → u ≡ v ++ w → Starts k ks (x ∷ xs) f u
     at-or-after [] g w field rest d e = record { one = x; others = xs; all = refl; field = subst (Field k x) (d ∙ append-nil f) field; rest = subst (Parts ks xs) (sym e) rest }

@@ -1,20 +1,18 @@
 -- Where the longest start of a text ends, field by field. Assumes nothing.
 use mathlib.Core.Path.{_≡_, refl, sym, ap, subst, _∙_}
-use mathlib.Core.List.{List, [], _∷_, _++_, append-nil, append-assoc}
+use mathlib.Core.List.{List, [], _∷_, _++_, append-assoc}
 use mathlib.Core.Logic.{_⊎_, inl, inr}
-use Prim.Native.Nat.{ℕ, suc, _+_, _-_, _*_, _≤_}
+use Prim.Native.Nat.{ℕ, suc, _+_, _-_, _*_}
 use native.Mathlib.Omega.{arith}
 use lib.IntN.{ℤ, pos, negsuc}
-use lib.ListN.{length, length-append}
-use Rattle.std.specs.declared.option.Option.{Option}
-use Rattle.std.specs.declared.option.Option.the-variants.{Some, None}
-use Rattle.std.specs.shelf.Lists.{All}
+use lib.ListN.{length-append}
+use Rattle.std.specs.declared.option.Option.the-variants.{Some}
 use Rattle.lines.specs.declared.fields.Kind.{Kind}
 use Rattle.lines.specs.declared.fields.Kind.the-variants.{Plain, Signed}
-use Rattle.lines.specs.Fields.{Digit, value, Decimal, Short, Field, Parts}
+use Rattle.lines.specs.Fields.{Digit, value, Short, Field, Parts}
 use Rattle.lines.specs.Lines.{Begins}
-use Rattle.lines.specs.Reading.{first, Fielded, Stuck, StuckAt, Taken, Ends, DigitsRead}
-use Rattle.lines.proofs.Splits.{Texts, Starts, same-field, fielded-first, minus-digit}
+use Rattle.lines.specs.Reading.{first, Fielded, StuckAt, Taken}
+use Rattle.lines.proofs.Splits.{Starts, same-field}
 
 -- stuck at once, since no text of P begins as s does
 pub here : (P : List ℕ → Type 0) (s : List ℕ) (from : ℕ) → Begins P [] → ((u : List ℕ) → first u ≡ first s → P u → ⊥) → StuckAt P s from from
@@ -23,9 +21,12 @@ here P s from some none = record { front = []; back = s; split = refl; stuck = r
 -- behind a byte that every reader took
 pub behind : (P : List ℕ → Type 0) (b : ℕ) (s : List ℕ) (from column : ℕ) → StuckAt (λ t. P (b ∷ t)) s (from + 1) column → StuckAt P (b ∷ s) from column
 behind P b s from column h = record {
-    front = b ∷ h .front; back = h .back; split = ap (λ t. b ∷ t) (h .split);
-    stuck = record { begins = h .stuck .begins; blocked = h .stuck .blocked };
-    at = omega (arith, h .at) }
+  front = b ∷ h .front;
+  back = h .back;
+  split = ap (λ t. b ∷ t) (h .split);
+  stuck = record { begins = h .stuck .begins; blocked = h .stuck .blocked };
+  at = omega (arith, h .at);
+}
 
 -- the first byte behind p tells apart as much as the first byte of the rest
 first-behind : (p u r : List ℕ) → first u ≡ first r → first (p ++ u) ≡ first (p ++ r)
@@ -44,18 +45,22 @@ past-field k z s from after rest t ks column h =
       stuck = record {
         begins = (h .stuck .begins .0, (z ∷ h .stuck .begins .1 .0, (f, p ++ h .stuck .begins .0, ap (λ r. 32 ∷ r) (append-assoc f p (h .stuck .begins .0)), t .reads, h .stuck .begins .1 .1)));
         blocked = λ u e g.
-          let st : Starts k ks (g .0) f (p ++ u) = same-field k z f rest (t .reads) (t .ends) ks (g .0) (p ++ u) (first-behind p u (h .back) e ∙ sym (ap first (h .split))) (subst (Parts (k ∷ ks) (g .0)) (ap (λ r. 32 ∷ r) (append-assoc f p u)) (g .1)) in
-          h .stuck .blocked u e (st .others, st .rest) };
-      at = omega (arith, t .column, h .at, length-append f p) }
+            let st : Starts k ks (g .0) f (p ++ u) = same-field k z f rest (t .reads) (t .ends) ks (g .0) (p ++ u) (first-behind p u (h .back) e ∙ sym (ap first (h .split))) (subst (Parts (k ∷ ks) (g .0)) (ap (λ r. 32 ∷ r) (append-assoc f p u)) (g .1)) in
+            h .stuck .blocked u e (st .others, st .rest);
+      };
+      at = omega (arith, t .column, h .at, length-append f p);
+    }
 
 -- some text stands in fields of any kinds, as 1 in each
 one-short : Short 1 (49 ∷ [])
 one-short = record { decimal = record { digits = ((omega arith, omega arith), tt); leads = λ e. refl; stands = refl }; few = omega arith }
 
+-- 1 is a field of both kinds
 one-field : (k : Kind) → Field k (pos 1) (49 ∷ [])
 one-field Plain = (1, refl, one-short)
 one-field Signed = one-short
 
+-- so a text begun can be ended
 pub some-fielded : (ks : List Kind) → (t : List ℕ) × Fielded ks t
 some-fielded [] = ([], ([], refl))
 some-fielded (k ∷ ks) =
@@ -92,6 +97,7 @@ abbrev pub Starter : Kind → ℕ → Type 0
 Starter Plain b = Digit b
 Starter Signed b = Digit b ⊎ (b ≡ 45)
 
+-- by its digits or its sign
 starts-with : (k : Kind) (z : ℤ) (f : List ℕ) → Field k z f → (b : ℕ) × (t : List ℕ) × (f ≡ b ∷ t) × Starter k b
 starts-with Plain z f h = let d = short-first (h .0) f (h .2) in (d .0, d .1, d .2, d .3)
 starts-with Signed (pos n) f h = let d = short-first n f h in (d .0, d .1, d .2, inl (d .3))

@@ -2,13 +2,13 @@
 use mathlib.Core.Path.{_≡_, refl, sym, ap, subst, _∙_}
 use mathlib.Core.Bool.{cond}
 use mathlib.Core.List.{List, [], _∷_, _++_, append-nil, append-assoc}
-use Prim.Native.Nat.{ℕ, suc, _+_, _-_, _≤_, _<_}
+use Prim.Native.Nat.{ℕ, _+_, _-_, _≤_, _<_}
 use native.Mathlib.Omega.{arith}
 use lib.Dec.{eqb}
-use lib.IntN.{ℤ, pos, negsuc}
+use lib.IntN.{ℤ, pos}
 use lib.ListN.{length, getD, take, drop, length-append}
 use Rattle.std.specs.declared.option.Option.{Option}
-use Rattle.std.specs.declared.option.Option.the-variants.{Some, None}
+use Rattle.std.specs.declared.option.Option.the-variants.{Some}
 use Rattle.std.specs.declared.result.Result.{Result}
 use Rattle.std.specs.declared.result.Result.the-variants.{Ok, Err}
 use Rattle.std.proofs.shelf.Lists.{take-at, length-push}
@@ -18,11 +18,9 @@ use Rattle.ledger.specs.declared.cells.Instruction.{Instruction}
 use Rattle.ledger.specs.declared.faults.Fault.{Fault}
 use Rattle.ledger.specs.Actions.{letter}
 use Rattle.ledger.specs.Faults.{misfit}
-use Rattle.lines.specs.declared.fields.Kind.{Kind}
-use Rattle.lines.specs.declared.fields.Kind.the-variants.{Plain, Signed}
 use Rattle.lines.specs.Fields.{Parts}
-use Rattle.lines.specs.Lines.{amount-kind, kinds, numbers, LineOf, Good, Begins, Misfits, ReadsAs, Answered}
-use Rattle.lines.specs.Reading.{first, Fielded, Stuck, StuckAt}
+use Rattle.lines.specs.Lines.{kinds, numbers, LineOf, Good, Begins, Misfits, ReadsAs, Answered}
+use Rattle.lines.specs.Reading.{first, Fielded, StuckAt}
 use Rattle.lines.proofs.Digits.{cut-first}
 use Rattle.lines.proofs.Splits.{one-list}
 use Rattle.lines.proofs.Stops.{here, behind, not-over, some-fielded}
@@ -31,6 +29,7 @@ use Rattle.lines.proofs.Stops.{here, behind, not-over, some-fielded}
 abbrev acted : ℕ → Option Action
 acted c = cond (eqb c 70) (Some Fill) (cond (eqb c 66) (Some PlaceBuy) (cond (eqb c 83) (Some PlaceSell) (cond (eqb c 67) (Some CancelBuy) (cond (eqb c 68) (Some CancelSell) (cond (eqb c 69) (Some ExecuteBuy) (cond (eqb c 71) (Some ExecuteSell) (cond (eqb c 75) (Some AddCover) (Some TakeCover))))))))
 
+-- by computing at each action
 acted-letter : (a : Action) → acted (letter a) ≡ Some a
 acted-letter Fill = refl
 acted-letter PlaceBuy = refl
@@ -58,6 +57,7 @@ fields-line a (x ∷ y ∷ z ∷ []) t h =
     (record { action = a; account = h .3 .0; series = h .4 .3 .0; amount = z }, (t, refl, subst (λ v. Parts (kinds a) v t) e h))
 fields-line a (x ∷ y ∷ z ∷ w ∷ zs) t h = absurd (h .4 .4 .4)
 
+-- an instruction with the letter has the action
 pub line-fields : (a : Action) (t : List ℕ) → Good (letter a ∷ t) → Fielded (kinds a) t
 line-fields a t (i, (rest, e, h)) =
     let l : letter a ≡ letter (i .action) = cc in
@@ -67,8 +67,12 @@ line-fields a t (i, (rest, e, h)) =
 -- stuck in P is stuck in a language with the same texts
 pub same-texts : (P Q : List ℕ → Type 0) → ((t : List ℕ) → P t → Q t) → ((t : List ℕ) → Q t → P t) → (s : List ℕ) (from column : ℕ) → StuckAt P s from column → StuckAt Q s from column
 same-texts P Q to back s from column h = record {
-    front = h .front; back = h .back; split = h .split; at = h .at;
-    stuck = record { begins = (h .stuck .begins .0, to _ (h .stuck .begins .1)); blocked = λ u e g. h .stuck .blocked u e (back _ g) } }
+  front = h .front;
+  back = h .back;
+  split = h .split;
+  at = h .at;
+  stuck = record { begins = (h .stuck .begins .0, to _ (h .stuck .begins .1)); blocked = λ u e g. h .stuck .blocked u e (back _ g) };
+}
 
 -- a line whose fields are stuck
 pub stuck-line : (a : Action) {s : List ℕ} {column : ℕ} → StuckAt (Fielded (kinds a)) s 1 column → StuckAt Good (letter a ∷ s) 0 column
@@ -80,10 +84,12 @@ no-letter s h =
     let m = some-fielded (kinds Fill) in
     here Good s 0 (70 ∷ m .0, fields-line Fill (m .1 .0) (m .0) (m .1 .1)) (λ u e g. h (g .0 .action) (sym (ap first (g .1 .1)) ∙ e))
 
+-- a line begins with a letter
 pub empty-line : (line : List ℕ) → length line ≡ 0 → StuckAt Good line 0 0
 empty-line [] l = no-letter [] (λ a e. let z : _≡_ {A = ℕ} 0 1 = cc in omega arith)
 empty-line (b ∷ line) l = absurd (omega arith)
 
+-- which is the letter of an action
 pub other-letter : (line : List ℕ) → ((a : Action) → getD line 0 0 ≡ letter a → ⊥) → 1 ≤ length line → StuckAt Good line 0 0
 other-letter [] h l = absurd (omega arith)
 other-letter (b ∷ line) h l = no-letter (b ∷ line) (λ a e. h a (let d : b ≡ letter a = cc in d))
@@ -106,7 +112,8 @@ misfits line column h =
       within = omega (arith, ap length (h .split), length-append (h .front) (h .back));
       begins = subst (Begins Good) (sym t) (h .stuck .begins);
       longest = further line (h .front) (h .back) column (h .split) (sym n) (h .stuck .blocked);
-      bad = λ g. h .stuck .blocked (h .back) refl (subst Good (h .split) g) }
+      bad = λ g. h .stuck .blocked (h .back) refl (subst Good (h .split) g);
+    }
 
 -- a line is the line of one instruction: its letter has one action, and its fields have one list of numbers
 pub one-line : (line : List ℕ) (i j : Instruction) → LineOf line i → LineOf line j → i ≡ j
@@ -126,6 +133,7 @@ whole : (line : List ℕ) (r : Result Instruction Fault) → ReadsAs line r → 
 whole line (Ok j) h i g = ap Ok (one-line line j i h g)
 whole line (Err f) h i g = absurd (h .2 .bad (i, g))
 
+-- by the line alone
 pub answered : (line : List ℕ) (r : Result Instruction Fault) → ReadsAs line r → Answered line r
 answered line r h = record { reads = h; whole = whole line r h }
 
@@ -144,6 +152,7 @@ pub left-over : (s : List ℕ) (from : ℕ) → 1 ≤ length s → StuckAt (Fiel
 left-over [] from l = absurd (omega arith)
 left-over (b ∷ s) from l = not-over b s from
 
+-- a text of no bytes
 pub nothing-left : (s : List ℕ) → length s ≡ 0 → s ≡ []
 nothing-left [] e = refl
 nothing-left (b ∷ s) e = absurd (omega arith)

@@ -1,7 +1,7 @@
 -- The lines of answers and sheets. Assumes nothing.
 use mathlib.Core.Path.{_≡_}
 use mathlib.Core.Bool.{Bool, not}
-use mathlib.Core.List.{List, [], _∷_, _++_}
+use mathlib.Core.List.{List, _∷_, _++_}
 use Prim.Native.Nat.{ℕ, _+_, _-_, _≤_}
 use lib.Chars.{codes}
 use lib.Dec.{eqb}
@@ -25,9 +25,12 @@ pub record Filled (text buffer : List ℕ) : Type 0 where
   pub holds : buffer ≡ text ++ 10 ∷ replicate (63 - length text) 0
   pub inside : All Inside text
 
+abbrev pub goes-on : ℕ → Bool
+goes-on b = not (eqb b 10)
+
 -- a buffer up to and with its first byte 10, or all of it where there is none
 abbrev pub printed : List ℕ → List ℕ
-printed buffer = take (leading (λ b. not (eqb b 10)) buffer + 1) buffer
+printed buffer = take (leading goes-on buffer + 1) buffer
 
 -- one space between two texts
 infixl 20 _beside_

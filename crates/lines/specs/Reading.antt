@@ -1,11 +1,13 @@
 -- How far a reader got: what its steps say to one another. Assumes nothing.
 use mathlib.Core.Path.{_≡_}
 use mathlib.Core.List.{List, [], _∷_, _++_}
-use Prim.Native.Nat.{ℕ, _+_, _<_}
+use Prim.Native.Nat.{ℕ, _+_, min}
 use lib.IntN.{ℤ, pos}
 use lib.ListN.{length}
 use Rattle.std.specs.declared.option.Option.{Option}
 use Rattle.std.specs.declared.option.Option.the-variants.{Some, None}
+use Rattle.std.specs.shelf.Lists.{leading}
+use Rattle.std.specs.Text.{asciiDigit}
 use Rattle.lines.specs.declared.fields.Kind.{Kind}
 use Rattle.lines.specs.Fields.{Digit, Field, Parts, Short}
 use Rattle.lines.specs.Lines.{Begins}
@@ -43,6 +45,11 @@ pub record StuckAt (P : List ℕ → Type 0) (s : List ℕ) (from column : ℕ) 
   pub split : s ≡ front ++ back
   pub stuck : Stuck P front back
   pub at : column ≡ from + length front
+
+-- a number at the start of s takes n bytes: one that begins with 0 takes no more, another its digits, up to 18
+pub record Spans (s : List ℕ) (n : ℕ) : Type 0 where
+  pub zero-alone : Some 48 ≡ first s → n ≡ 1
+  pub counted : (Some 48 ≡ first s → ⊥) → n ≡ min 18 (leading asciiDigit s)
 
 -- the digits at the start of s, if there are any
 pub record DigitsRead (s : List ℕ) (from : ℕ) (number : Option ℤ) (after : ℕ) (rest : List ℕ) : Type 0 where

@@ -1,7 +1,7 @@
 // Reads the lines of instructions.
 ghost use mathlib.Core.Path.{_≡_};
 ghost use mathlib.Core.List.{_∷_};
-ghost use Prim.Native.Nat.{ℕ, _+_, _<_, _^_};
+ghost use Prim.Native.Nat.{_+_, _<_, _^_};
 ghost use lib.ListN.{length};
 ghost use Rattle.ledger.specs.Actions.{letter};
 ghost use Rattle.lines.specs.Lines.{ReadsAs, Answered, amount-kind};
@@ -11,6 +11,7 @@ use ledger::actions::Action;
 use ledger::cells::Instruction;
 use ledger::faults::Fault;
 
+// Only the amount of a fill may have a sign.
 fn amount_kind(action: Action) -> Kind
     ensures { λ r. ⌜ r ≡ amount-kind action ⌝ }
 {
@@ -40,7 +41,12 @@ fn read_instruction(action: Action, s: &[u8]) -> Result<Instruction, Fault>
     let [] = third.rest else {
         return Err(Fault::misfit(third.column));
     };
-    Ok(Instruction { action, account: account as usize, series: series as usize, amount })
+    Ok(Instruction {
+        action,
+        account: account as usize,
+        series: series as usize,
+        amount,
+    })
 }
 
 // The instruction of a line, or the column of the first byte that does not fit.

@@ -1,13 +1,11 @@
 // Writes the lines of answers and sheets.
 ghost use mathlib.Core.Path.{_≡_};
-ghost use mathlib.Core.Bool.{not};
 ghost use mathlib.Core.List.{List, [], _∷_, _++_};
 ghost use Prim.Native.Nat.{ℕ, _+_, _≤_, _<_, _^_, min};
-ghost use lib.Dec.{eqb};
 ghost use lib.ListN.{length};
 ghost use Rattle.std.specs.Written.{decimal, signed};
 ghost use Rattle.std.specs.shelf.Lists.{All, leading};
-ghost use Rattle.lines.specs.Output.{Inside, Filled, printed, AnswerLine, SheetLine};
+ghost use Rattle.lines.specs.Output.{Inside, Filled, goes-on, printed, AnswerLine, SheetLine};
 ghost use Rattle.lines.specs.Writing.{Holds, Appends};
 use ledger::books::Holding;
 use ledger::cells::Quote;
@@ -21,7 +19,7 @@ pub struct OutputLine {
 
 // How many bytes the first line of s takes, with its byte 10.
 fn line_length(s: &[u8]) -> usize
-    ensures { λ r. ⌜ r ≡ min (length (now (s .entry))) (leading (λ b. not (eqb b 10)) (now (s .entry)) + 1) ⌝ }
+    ensures { λ r. ⌜ r ≡ min (length (now (s .entry))) (leading goes-on (now (s .entry)) + 1) ⌝ }
 {
     let mut n = 0;
     for b in s {
@@ -55,9 +53,13 @@ impl Writer {
     fn new() -> Writer
         ensures { λ r. ⌜ Holds r [] ⌝ }
     {
-        Writer { bytes: [0; 64], len: 0 }
+        Writer {
+            bytes: [0; 64],
+            len: 0,
+        }
     }
 
+    // One byte more.
     fn byte(self, b: u8) -> Writer
         requires room { ⌜ self .len < 63 ⌝ }
         requires inside { ⌜ Inside b ⌝ }
@@ -65,7 +67,10 @@ impl Writer {
     {
         let mut bytes = self.bytes;
         bytes[self.len] = b;
-        Writer { bytes, len: self.len + 1 }
+        Writer {
+            bytes,
+            len: self.len + 1,
+        }
     }
 
     fn text(self, s: &[u8]) -> Writer
@@ -80,6 +85,7 @@ impl Writer {
         line
     }
 
+    // The digits of a number.
     fn number(self, n: u64) -> Writer
         requires { ⌜ self .len + length (decimal n) ≤ 63 ⌝ }
         ensures { λ r. ⌜ Appends self r (decimal n) ⌝ }
@@ -109,6 +115,7 @@ impl Writer {
         self.field(n.unsigned_abs())
     }
 
+    // Byte 10 behind the text.
     fn finish(self) -> OutputLine
         requires { ⌜ self .len ≤ 63 ⌝ }
         ensures { λ r. ⌜ ((text : List ℕ) → Holds self text → Filled text (r .bytes)) ⌝ }
@@ -129,7 +136,12 @@ pub fn answer_line(answer: Result<Quote, Fault>) -> OutputLine
             let reason = u64::from(fault.reason.number());
             let depth = u64::from(fault.depth);
             let spot = fault.spot as u64;
-            Writer::new().text(b"no").field(reason).field(depth).field(spot).finish()
+            Writer::new()
+                .text(b"no")
+                .field(reason)
+                .field(depth)
+                .field(spot)
+                .finish()
         }
     }
 }
@@ -147,5 +159,10 @@ pub fn sheet_line(h: Holding) -> OutputLine
     }
     let account = h.account as u64;
     let series = h.series as u64;
-    Writer::new().text(b"p").field(account).field(series).signed_field(h.held).finish()
+    Writer::new()
+        .text(b"p")
+        .field(account)
+        .field(series)
+        .signed_field(h.held)
+        .finish()
 }

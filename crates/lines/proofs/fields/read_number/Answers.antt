@@ -1,19 +1,16 @@
-use mathlib.Core.Path.{_≡_, refl, sym, subst, ap, _∙_}
+use mathlib.Core.Path.{_≡_, subst}
 use mathlib.Core.Bool.{true, false}
-use Prim.Native.Nat.{ℕ, _≤_, _<_, _+_, _-_}
+use Prim.Native.Nat.{_≤_}
 use native.Mathlib.Omega.{arith}
 use borrow.Author.Needs.{needs}
 use borrow.Author.Tests.{ltb-true, ltb-false}
 use lib.IntN.{ℤ, pos, _-ℤ_}
-use lib.ListN.{getD, length, take, drop}
+use lib.ListN.{getD, length}
 use lib.Signed.{_<ℤ_, _≤ℤ_, ltZ}
 use mir.Syntax.{w64}
 use mir.Val.{SFits, toZ, ofZ}
-use Rattle.std.specs.declared.option.Option.{Option}
-use Rattle.std.specs.declared.option.Option.the-variants.{Some, None}
-use Rattle.std.proofs.shelf.Signed.{ints, toZ-ofZ}
-use Rattle.lines.specs.declared.fields.Kind.the-variants.{Plain, Signed}
-use Rattle.lines.specs.Reading.{DigitsRead, NumberRead}
+use Rattle.std.specs.declared.option.Option.the-variants.{Some}
+use Rattle.std.proofs.shelf.Signed.{ints}
 use Rattle.lines.proofs.Digits.{cut-first, not-first}
 use Rattle.lines.proofs.Numbers.{plain-read, unsigned-read, minus-read, minus-none}
 use Rattle.lines.proofs.fields.read_number.Needs as need
@@ -52,6 +49,7 @@ returns-in-rest-number c =
     let l : 1 ≤ length s = omega (arith, ltb-true, ltb-false) in
     let e : getD s 0 0 ≡ 45 = search needs in
     let h : (z : ℤ) → c .read-digits-digits .result .number ≡ Some z → z ≤ℤ pos 0 = elim (c .in-rest-number .came) [
-        in-rest-number·by·in-Some·else-n-gt0 w ↦ λ z q. let f : SFits w64 (w .in-Some .n) = search needs in let y = w .in-Some .is in let x : w .in-Some .n ≡ z = cc in subst (λ a. a ≤ℤ pos 0) x (not-above (w .in-Some .n) f (w .if-n-gt0 .left))
-      | in-rest-number·by·in-None· w ↦ search needs ] in
+      | in-rest-number·by·in-Some·else-n-gt0 w ↦ λ z q. let f : SFits w64 (w .in-Some .n) = search needs in let y = w .in-Some .is in let x : w .in-Some .n ≡ z = cc in subst (λ a. a ≤ℤ pos 0) x (not-above (w .in-Some .n) f (w .if-n-gt0 .left))
+      | in-rest-number·by·in-None· w ↦ search needs
+    ] in
     record { reads = minus-none _ _ _ _ _ _ _ _ (c .in-Signed .is) (cut-first 45 s l e) h (c .read-digits-digits .ensures .reads); within = search needs }

@@ -57,4 +57,3 @@ returns-in-rest-2 c =
     none ExecuteSell e = search needs
     none AddCover e = search needs
     none TakeCover e = search needs
-

@@ -1,10 +1,9 @@
-use mathlib.Core.Path.{_≡_, refl, sym, subst, _∙_}
-use mathlib.Core.List.{List, [], _∷_, _++_}
-use Prim.Native.Nat.{ℕ, _^_, _<_, _≤_, _+_}
+use mathlib.Core.Path.{refl, sym, subst, _∙_}
+use mathlib.Core.List.{[]}
+use Prim.Native.Nat.{_^_, _<_}
 use native.Mathlib.Omega.{arith}
 use borrow.Author.Needs.{needs}
 use lib.Chars.{codes}
-use lib.ListN.{length}
 use Rattle.std.specs.Written.{decimal}
 use Rattle.lines.specs.Fields.{Decimal}
 use Rattle.lines.specs.Output.{_beside_, AnswerText}
@@ -47,7 +46,9 @@ returns-in-Err c =
     let f : a < 2 ^ 64 = search needs in
     let g : b < 2 ^ 64 = search needs in
     let h : s < 2 ^ 64 = search needs in
-    let text = codes "no" beside decimal a beside decimal b beside decimal s in
-    (text, subst (λ r. AnswerText r text) (sym (c .in-Err .is))
-      (decimal a, decimal b, decimal s, refl, subst (λ n. Decimal n (decimal a)) (c .from-reason .ensures ∙ c .number .ensures) (decimal-is a f), subst (λ n. Decimal n (decimal b)) (c .from-depth .ensures) (decimal-is b g), decimal-is s h),
-     c .finish-in-Err .ensures _ (c .field-in-Err-2 .ensures .holds _ (c .field-in-Err .ensures .holds _ (c .field .ensures .holds _ (c .text-in-Err .ensures .holds [] (c .new-in-Err .ensures))))))
+    let text = codes "no" beside decimal a beside decimal b beside decimal s in (
+      text,
+      subst (λ r. AnswerText r text) (sym (c .in-Err .is))
+          (decimal a, decimal b, decimal s, refl, subst (λ n. Decimal n (decimal a)) (c .from-reason .ensures ∙ c .number .ensures) (decimal-is a f), subst (λ n. Decimal n (decimal b)) (c .from-depth .ensures) (decimal-is b g), decimal-is s h),
+      c .finish-in-Err .ensures _ (c .field-in-Err-2 .ensures .holds _ (c .field-in-Err .ensures .holds _ (c .field .ensures .holds _ (c .text-in-Err .ensures .holds [] (c .new-in-Err .ensures))))),
+    )

@@ -1,6 +1,6 @@
-use mathlib.Core.Path.{_≡_, refl, sym, subst, _∙_}
-use mathlib.Core.List.{List, [], _∷_, _++_}
-use Prim.Native.Nat.{ℕ, _^_, _<_, _≤_, _+_}
+use mathlib.Core.Path.{refl, sym, subst}
+use mathlib.Core.List.{[]}
+use Prim.Native.Nat.{ℕ, _^_, _<_, _≤_}
 use native.Mathlib.Omega.{arith}
 use borrow.Author.Needs.{needs}
 use lib.Chars.{codes}
@@ -57,8 +57,10 @@ returns c =
     let k : SFits w64 (h .held) = search needs in
     let text = codes "p" beside decimal (h .account) beside decimal (h .series) in
     record {
-      line = λ _.
-        (text beside signed (h .held),
-         (decimal (h .account), decimal (h .series), signed (h .held), refl, decimal-is (h .account) f, decimal-is (h .series) g, signed-is (h .held) (k .sfits)),
-         subst (λ z. Filled (text beside signed z) (c .finish-2 .result .bytes)) (toZ-ofZ w64 (h .held) k) (c .finish-2 .ensures _ (c .signed-field .ensures .holds _ (c .field-2 .ensures .holds _ (c .field .ensures .holds _ (c .text .ensures .holds [] (c .new-2 .ensures)))))));
-      empty = λ l. absurd (omega arith) }
+      line = λ _. (
+        text beside signed (h .held),
+        (decimal (h .account), decimal (h .series), signed (h .held), refl, decimal-is (h .account) f, decimal-is (h .series) g, signed-is (h .held) (k .sfits)),
+        subst (λ z. Filled (text beside signed z) (c .finish-2 .result .bytes)) (toZ-ofZ w64 (h .held) k) (c .finish-2 .ensures _ (c .signed-field .ensures .holds _ (c .field-2 .ensures .holds _ (c .field .ensures .holds _ (c .text .ensures .holds [] (c .new-2 .ensures)))))),
+      );
+      empty = λ l. absurd (omega arith);
+    }

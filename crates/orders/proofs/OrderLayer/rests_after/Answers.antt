@@ -15,4 +15,5 @@ returns g c =
     record {
       buys = new .buys ∙ ap (λ z. z +ℤ step (i .action) (i .amount) .buys) (old .buys .0);
       sells = new .sells ∙ ap (λ z. z +ℤ step (i .action) (i .amount) .sells) (old .sells .0);
-      near = (subst Near (sym (new .buys)) (n .0), subst Near (sym (new .sells)) (n .1)) }
+      near = (subst Near (sym (new .buys)) (n .0), subst Near (sym (new .sells)) (n .1));
+    }

@@ -1,11 +1,8 @@
-use mathlib.Core.Path.{_≡_, sym, ap, _∙_}
-use Prim.Native.Nat.{_+_, _-_, _<_, _≤_, _/_, _%_, _^_}
+use mathlib.Core.Path.{sym}
+use Prim.Native.Nat.{_<_, _^_}
 use native.Mathlib.Omega.{arith}
 use borrow.Author.Needs.{needs}
-use lib.ListN.{length}
-use Rattle.std.specs.Written.{decimal}
 use Rattle.std.proofs.shelf.Decimals.{decimal-some, decimal-digit, decimal-step}
-use Rattle.std.proofs.shelf.Lists.{length-push}
 use Rattle.lines.proofs.Buffers.{appends-as, appends-then, length-decimal-step}
 use Rattle.lines.proofs.writing.Writer.+number.Needs as need
 

@@ -1,5 +1,3 @@
-use borrow.Author.Needs.{needs}
-use native.Mathlib.Omega.{arith}
 use Rattle.lines.proofs.Buffers.{appends-then}
 use Rattle.lines.proofs.writing.Writer.field.Needs as need
 

@@ -1,9 +1,7 @@
-use mathlib.Core.Path.{_≡_, sym, ap}
-use mathlib.Core.Bool.{true}
+use mathlib.Core.Path.{sym, ap}
 use mathlib.Core.List.{_∷_}
-use native.Mathlib.Omega.{arith}
 use borrow.Author.Needs.{needs}
-use lib.IntN.{ℤ, pos}
+use lib.IntN.{pos}
 use lib.Signed.{_<ℤ_}
 use mir.Syntax.{w64}
 use mir.Val.{SFits}

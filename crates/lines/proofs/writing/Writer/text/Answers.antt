@@ -18,7 +18,8 @@ byte-line-requires c κs =
     let l : length (take i s) ≡ i = length-take-le i s (omega arith) in
     record {
       room = omega (arith, c .loop-b .inv .size, c .pre .room);
-      inside = all-getD Inside s i 0 (c .loop-b-test .taken) (c .pre .inside) }
+      inside = all-getD Inside s i 0 (c .loop-b-test .taken) (c .pre .inside);
+    }
 
 pub loop-b-again : need.loop-b-again
 loop-b-again c = appends-as (sym (take-more (c .args .s .now) (c .loop-b .b-index) 0 (c .loop-b-test .taken))) (appends-then (c .loop-b .inv) (c .byte-line .ensures))
