@@ -24,9 +24,10 @@ use Rattle.day.proofs.Steps.{each-more}
 -- a held cell has an account and a series below 64
 pub inside : (m : Meaning) → Lawful m → (from : ℕ) (r : Option Holding) → FirstHeld (m .cell) from r → InGrid r
 inside m lawful from None h = tt
-inside m lawful from (Some h) n =
-    (⊎-elim (λ lt. lt) (λ ge. absurd (n .held .held (n .held .count ∙ ap (λ (c : Cell). c .held) (lawful .beyond (h .account) (h .series) (inl ge))))) (cases-lt (h .account) 64),
-     n .held .series)
+inside m lawful from (Some h) n = (
+  ⊎-elim (λ lt. lt) (λ ge. absurd (n .held .held (n .held .count ∙ ap (λ (c : Cell). c .held) (lawful .beyond (h .account) (h .series) (inl ge))))) (cases-lt (h .account) 64),
+  n .held .series,
+)
 
 -- the held cells below a place
 pub record Before (cell : ℕ → ℕ → Cell) (from : ℕ) (hs : List Holding) : Type 0 where
@@ -40,7 +41,8 @@ before-none cell = record {
   rising = λ j k l m. absurd (omega arith);
   held = λ k l. absurd (omega arith);
   all = λ a s l m n. absurd (omega arith);
-  below = λ k l. absurd (omega arith) }
+  below = λ k l. absurd (omega arith);
+}
 
 module _ (cell : ℕ → ℕ → Cell) (from : ℕ) (hs : List Holding) (before : Before cell from hs) where
   -- where no more are held, those are all
@@ -48,7 +50,8 @@ module _ (cell : ℕ → ℕ → Cell) (from : ℕ) (hs : List Holding) (before 
   before-all none = record {
     rising = before .rising;
     held = before .held;
-    all = λ a s l n. ⊎-elim (λ lt. before .all a s l lt n) (λ ge. absurd (n (none a s l ge))) (cases-lt (place a s) from) }
+    all = λ a s l n. ⊎-elim (λ lt. before .all a s l lt n) (λ ge. absurd (n (none a s l ge))) (cases-lt (place a s) from);
+  }
 
   module _ (h : Holding) (next : Next cell from h) where
     -- an index of the longer list is one of the shorter, or the last
@@ -58,8 +61,8 @@ module _ (cell : ℕ → ℕ → Cell) (from : ℕ) (hs : List Holding) (before 
         ⊎-elim
         (λ lt. subst (P k) (sym (getD-append-left hs (h ∷ []) nothing k lt)) (old k lt))
         (λ ge.
-          let e : length hs ≡ k = omega arith in
-          subst (P k) (sym (getD-push hs h nothing k e)) (subst (λ n. P n h) e new))
+        let e : length hs ≡ k = omega arith in
+        subst (P k) (sym (getD-push hs h nothing k e)) (subst (λ n. P n h) e new))
         (cases-lt k (length hs))
 
     keep : (a s : ℕ) → Listed hs a s → Listed (hs ++ h ∷ []) a s
@@ -70,7 +73,8 @@ module _ (cell : ℕ → ℕ → Cell) (from : ℕ) (hs : List Holding) (before 
           index = i .index;
           within = (let w = i .within in omega arith);
           account = ap (λ (g : Holding). g .account) same ∙ i .account;
-          series = ap (λ (g : Holding). g .series) same ∙ i .series }
+          series = ap (λ (g : Holding). g .series) same ∙ i .series;
+        }
 
     pub before-more : Before cell (place-of h + 1) (hs ++ h ∷ [])
     before-more =
@@ -78,23 +82,24 @@ module _ (cell : ℕ → ℕ → Cell) (from : ℕ) (hs : List Holding) (before 
         let last = getD-push hs h nothing (length hs) refl in
         record {
           rising = λ j k l m.
-            split (λ n g. (i : ℕ) → i < n → place-of (nth (hs ++ h ∷ []) i) < place-of g)
-            (λ n p i q. subst (λ g. place-of g < place-of (nth hs n)) (sym (getD-append-left hs (h ∷ []) nothing i (omega arith))) (before .rising i n q p))
-            (λ i q. subst (λ g. place-of g < place-of h) (sym (getD-append-left hs (h ∷ []) nothing i q)) (let b = before .below i q in let o = next .onward in omega arith))
-            k m j l;
+              split (λ n g. (i : ℕ) → i < n → place-of (nth (hs ++ h ∷ []) i) < place-of g)
+              (λ n p i q. subst (λ g. place-of g < place-of (nth hs n)) (sym (getD-append-left hs (h ∷ []) nothing i (omega arith))) (before .rising i n q p))
+              (λ i q. subst (λ g. place-of g < place-of h) (sym (getD-append-left hs (h ∷ []) nothing i q)) (let b = before .below i q in let o = next .onward in omega arith))
+              k m j l;
           held = split (λ n g. Held cell g) (λ k l. before .held k l) (next .held);
           all = λ a s l m n.
-            ⊎-elim
-            (λ lt. keep a s (before .all a s l lt n))
-            (λ ge.
+              ⊎-elim
+              (λ lt. keep a s (before .all a s l lt n))
+              (λ ge.
               ⊎-elim
               (λ lt. absurd (n (next .first a s l (ge, lt))))
               (λ at.
-                let t = next .held .series in
-                record { index = length hs; within = omega arith; account = ap (λ (g : Holding). g .account) last ∙ (let e : h .account ≡ a = omega arith in e); series = ap (λ (g : Holding). g .series) last ∙ (let e : h .series ≡ s = omega arith in e) })
+              let t = next .held .series in
+              record { index = length hs; within = omega arith; account = ap (λ (g : Holding). g .account) last ∙ (let e : h .account ≡ a = omega arith in e); series = ap (λ (g : Holding). g .series) last ∙ (let e : h .series ≡ s = omega arith in e) })
               (cases-lt (place a s) (place-of h)))
-            (cases-lt (place a s) from);
-          below = split (λ n g. place-of g < place-of h + 1) (λ k l. let b = before .below k l in let o = next .onward in omega arith) (omega arith) }
+              (cases-lt (place a s) from);
+          below = split (λ n g. place-of g < place-of h + 1) (λ k l. let b = before .below k l in let o = next .onward in omega arith) (omega arith);
+        }
 
 -- one more line for one more cell
 pub adds-more : (held : List Holding) (lines all more : List OutputLine) (h : Holding) (line : OutputLine) → Adds held lines all → SheetLine h (buffer line) → more ≡ all ++ line ∷ []
@@ -102,7 +107,8 @@ pub adds-more : (held : List Holding) (lines all more : List OutputLine) (h : Ho
 adds-more held lines all more h line a s e = record {
   sheet = a .sheet ++ line ∷ [];
   behind = e ∙ ap (λ ys. ys ++ line ∷ []) (a .behind) ∙ append-assoc lines (a .sheet) (line ∷ []);
-  shows = subst (Each SheetLine (held ++ h ∷ [])) (sym (map-push buffer (a .sheet) line)) (each-more SheetLine held (map buffer (a .sheet)) h (buffer line) (a .shows) s) }
+  shows = subst (Each SheetLine (held ++ h ∷ [])) (sym (map-push buffer (a .sheet) line)) (each-more SheetLine held (map buffer (a .sheet)) h (buffer line) (a .shows) s);
+}
 
 -- a loop over the cells goes on by the next one
 pub adds-next : (held : List Holding) (k : ℕ) (d : Holding) (lines all more : List OutputLine) (line : OutputLine) → k < length held → Adds (take k held) lines all

@@ -34,7 +34,8 @@ idle o b e zero rows buys sells plain = record {
   rows = ap (λ (x : GridBook). rows-of (x .held)) e ∙ rows;
   buys = buys;
   sells = sells;
-  plain = plain }
+  plain = plain;
+}
 
 -- with nothing covered above it
 pub fresh : (x : Stack) (o : OrderLayer GridBook) → x .below ≡ o → AllZero (x .cover) → Idle o → Fresh x
@@ -43,7 +44,8 @@ fresh x o e cover i =
     record {
       unused = ((below .held, below .buys, below .sells), cover);
       taken = below .rows;
-      plain = below .plain }
+      plain = below .plain;
+    }
 
 -- the run over the lines, and then the sheet
 pub day-of : (text : List ℕ) (first last : Stack) (lines : List (List ℕ)) (answers all : List OutputLine) → Fresh first → Cut text lines
@@ -60,7 +62,8 @@ day-of text first last lines answers all fresh cut run sheet = record {
   run = run;
   listing = sheet .listing;
   shows = sheet .adds .shows;
-  whole = ap (map buffer) (sheet .adds .behind) ∙ map-append buffer answers (sheet .adds .sheet) }
+  whole = ap (map buffer) (sheet .adds .behind) ∙ map-append buffer answers (sheet .adds .sheet);
+}
 
 -- what was made has what follows from what it has
 pub made-weaker : {X Y : Type 0} (Q P : X → Type 0) (r : Result X Y) → ((x : X) → Q x → P x) → made r Q → made r P

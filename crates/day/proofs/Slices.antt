@@ -32,7 +32,8 @@ module _ (text : List ℕ) where
   pub cutting-all : (from : ℕ) (lines : List (List ℕ)) → Cutting text from lines → length text ≤ from → Cut text lines
   cutting-all from lines c l = record {
     free = c .free;
-    whole = ⊎-elim (λ d. inl (sym (take-all from text l) ∙ sym (d .1))) (λ d. inr (d .1)) (c .done) }
+    whole = ⊎-elim (λ d. inl (sym (take-all from text l) ∙ sym (d .1))) (λ d. inr (d .1)) (c .done);
+  }
 
   module _ (from end : ℕ) (lines : List (List ℕ)) (c : Cutting text from lines) (start : from < length text) (fore : from ≤ end) (within : end ≤ length text)
       (none : (k : ℕ) → from ≤ k → k < end → getD text k 0 ≡ 10 → ⊥) (ends : end < length text → getD text end 0 ≡ 10) where
@@ -57,13 +58,18 @@ module _ (text : List ℕ) where
     cutting-more = record {
       free = all-push Free lines (between from end text) (c .free) line-free;
       done = ⊎-elim
-        (λ lt. inl (omega arith, stopped lt))
-        (λ ge.
+          (λ lt. inl (omega arith, stopped lt))
+          (λ ge.
           let long = length-between text from end within in
-          inr (omega arith, record {
-            front = lines;
-            last = between from end text;
-            is = refl;
-            some = omega arith;
-            joins = sym (take-all end text ge) ∙ sym (take-between from end fore) ∙ ap (λ ys. ys ++ between from end text) (sym so-far) }))
-        (cases-lt end (length text)) }
+          inr (
+            omega arith,
+            record {
+              front = lines;
+              last = between from end text;
+              is = refl;
+              some = omega arith;
+              joins = sym (take-all end text ge) ∙ sym (take-between from end fore) ∙ ap (λ ys. ys ++ between from end text) (sym so-far);
+            },
+          ))
+          (cases-lt end (length text));
+    }

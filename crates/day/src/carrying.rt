@@ -31,7 +31,11 @@ fn serve_line<L: Ledger>(ledger: &mut L, line: &[u8]) -> OutputLine
 }
 
 // One answer a line, in order. The memory for the answers is had first: without it nothing has changed.
-pub fn carry_lines<L: Ledger>(heap: Global, ledger: &mut L, lines: &[&[u8]]) -> Result<Vec<OutputLine>, AllocError>
+pub fn carry_lines<L: Ledger>(
+    heap: Global,
+    ledger: &mut L,
+    lines: &[&[u8]],
+) -> Result<Vec<OutputLine>, AllocError>
     ensures made { λ r. ⌜ made r (λ v. Run (Serves meaning keeps) (now (ledger .entry)) (map shown (now (lines .entry))) (map buffer (vec-items v)) (now (ledger .exit))) ⌝ }
     ensures refused { λ r. ⌜ refused r (λ _. now (ledger .exit) ≡ now (ledger .entry)) ⌝ }
 {

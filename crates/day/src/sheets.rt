@@ -48,7 +48,11 @@ fn add_lines(lines: Vec<OutputLine>, held: &[Holding]) -> Result<Vec<OutputLine>
 }
 
 // The sheet of a book, behind the lines that are there: a line for each held cell.
-pub fn add_sheet<B: Book>(heap: Global, lines: Vec<OutputLine>, book: &B) -> Result<Vec<OutputLine>, AllocError>
+pub fn add_sheet<B: Book>(
+    heap: Global,
+    lines: Vec<OutputLine>,
+    book: &B,
+) -> Result<Vec<OutputLine>, AllocError>
     ensures { λ r. ⌜ made r (λ v. AddsSheet (B·Ledger .meaning (now (book .entry)) .cell) (vec-items lines) (vec-items v)) ⌝ }
 {
     let held = holdings(heap, book)?;

@@ -30,7 +30,8 @@ ranged q r =
       ordered = omega (arith, ints, clamps, o);
       held-in = r .held-in;
       low-in = (omega (arith, ints, clamps, l), omega (arith, ints, clamps, l));
-      high-in = (omega (arith, ints, clamps, h), omega (arith, ints, clamps, h)) }
+      high-in = (omega (arith, ints, clamps, h), omega (arith, ints, clamps, h));
+    }
 
 low-toward : (n y z : ℤ) → Toward n y z → Toward n (minZ y (pos 0)) (minZ z (pos 0))
 low-toward n y z t = record { least = omega (arith, ints, clamps, t .least, t .most); most = omega (arith, ints, clamps, t .least, t .most) }
@@ -73,10 +74,11 @@ span-lawful m l = record {
   beyond = λ a s h. ap span-cell (l .beyond a s h);
   first = λ i f e. then-err (checked (m .taken) i) _ f e;
   quotes = λ i q e.
-    let k = span-ok m i q e in
-    let c = m .cell (i .account) (i .series) in
-    let below = l .quotes i (k .under) (k .answers) in
-    let law : Quotes (i .action) (i .amount) (span-cell c) (spanned (k .under)) =
-        record { held = below .held; ranged = ranged _ (below .ranged); moves = moves (i .action) (i .amount) c (k .under) (below .moves) } in
-    subst (Quotes (i .action) (i .amount) (span-cell c)) (sym (k .is)) law;
-  idle = λ u a s. ap span-cell (l .idle u a s) }
+      let k = span-ok m i q e in
+      let c = m .cell (i .account) (i .series) in
+      let below = l .quotes i (k .under) (k .answers) in
+      let law : Quotes (i .action) (i .amount) (span-cell c) (spanned (k .under)) =
+      record { held = below .held; ranged = ranged _ (below .ranged); moves = moves (i .action) (i .amount) c (k .under) (below .moves) } in
+      subst (Quotes (i .action) (i .amount) (span-cell c)) (sym (k .is)) law;
+  idle = λ u a s. ap span-cell (l .idle u a s);
+}

@@ -23,4 +23,5 @@ span-meaning m = record {
   cell = λ a s. span-cell (m .cell a s);
   taken = m .taken;
   quoted = λ i. checked (m .taken) i then (λ _. asked m (i .account) (i .series) (Some i) then (λ q. Ok (spanned q)));
-  unused = m .unused }
+  unused = m .unused;
+}

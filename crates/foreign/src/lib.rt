@@ -20,7 +20,11 @@ pub struct SpanLayer<L: Ledger> {
 fn spanned_quote(q: Quote) -> Quote
     ensures { λ r. ⌜ r ≡ spanned q ⌝ }
 {
-    Quote { held: q.held, low: q.low.min(0), high: q.high.max(0) }
+    Quote {
+        held: q.held,
+        low: q.low.min(0),
+        high: q.high.max(0),
+    }
 }
 
 impl<L: Ledger> SpanLayer<L> {
@@ -43,8 +47,22 @@ pub impl<L: Ledger> Ledger for SpanLayer<L> as SpanLedger {
     }
 
     fn cell(&self, account: usize, series: usize) -> Cell {
-        let Cell { held, low, high, buys, sells, cover } = self.below.cell(account, series);
-        Cell { held, low: low.min(0), high: high.max(0), buys, sells, cover }
+        let Cell {
+            held,
+            low,
+            high,
+            buys,
+            sells,
+            cover,
+        } = self.below.cell(account, series);
+        Cell {
+            held,
+            low: low.min(0),
+            high: high.max(0),
+            buys,
+            sells,
+            cover,
+        }
     }
 
     fn quote(&self, i: Instruction) -> Result<Quote, Fault> {

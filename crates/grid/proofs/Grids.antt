@@ -34,21 +34,21 @@ module _ (t : Table) where
   pub room : (i : Instruction) → i .account < rows-of t → i .series < 64 → not (isFull (grid-capacity t) (at t) i) ≡ true
   room i p q = by (nonzero (at t (i .account) (i .series))) refl
     where
-    k : ℕ
-    k = 64 * (i .account) + i .series
+      k : ℕ
+      k = 64 * (i .account) + i .series
 
-    fewer : at t (i .account) (i .series) ≡ pos 0 → eqb (held-cells (at t)) (grid-capacity t) ≡ false
-    fewer z =
-        let a : k / 64 ≡ i .account = omega arith in
-        let s : k % 64 ≡ i .series = omega arith in
-        let here : at-place (at t) k ≡ pos 0 = ap (λ n. at t n (k % 64)) a ∙ ap (at t (i .account)) s ∙ z in
-        let f = held-fewer (at t) (64 * rows-of t) k (omega arith) here in
-        let g = among in
-        ⊎-elim (λ e. let q = eqb-true _ _ e in absurd (omega arith)) (λ e. e) (cases-bool (eqb (held-cells (at t)) (grid-capacity t)))
+      fewer : at t (i .account) (i .series) ≡ pos 0 → eqb (held-cells (at t)) (grid-capacity t) ≡ false
+      fewer z =
+          let a : k / 64 ≡ i .account = omega arith in
+          let s : k % 64 ≡ i .series = omega arith in
+          let here : at-place (at t) k ≡ pos 0 = ap (λ n. at t n (k % 64)) a ∙ ap (at t (i .account)) s ∙ z in
+          let f = held-fewer (at t) (64 * rows-of t) k (omega arith) here in
+          let g = among in
+          ⊎-elim (λ e. let q = eqb-true _ _ e in absurd (omega arith)) (λ e. e) (cases-bool (eqb (held-cells (at t)) (grid-capacity t)))
 
-    by : (b : Bool) → nonzero (at t (i .account) (i .series)) ≡ b → not (not b && eqb (held-cells (at t)) (grid-capacity t)) ≡ true
-    by true e = refl
-    by false e = ap not (fewer (zero-from _ e))
+      by : (b : Bool) → nonzero (at t (i .account) (i .series)) ≡ b → not (not b && eqb (held-cells (at t)) (grid-capacity t)) ≡ true
+      by true e = refl
+      by false e = ap not (fewer (zero-from _ e))
 
   pub grid-lawful : ((a s : ℕ) → Within (at t a s)) → Lawful (grid-meaning t)
   grid-lawful near = book-lawful (rows-of t) (grid-capacity t) (at t) (omega arith) near outside

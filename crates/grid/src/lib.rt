@@ -63,7 +63,14 @@ pub impl Ledger for GridBook as GridLedger {
 
     fn cell(&self, account: usize, series: usize) -> Cell {
         let held = self.held.at(account, series);
-        Cell { held, low: held, high: held, buys: 0, sells: 0, cover: 0 }
+        Cell {
+            held,
+            low: held,
+            high: held,
+            buys: 0,
+            sells: 0,
+            cover: 0,
+        }
     }
 
     fn quote(&self, i: Instruction) -> Result<Quote, Fault> {
@@ -75,7 +82,11 @@ pub impl Ledger for GridBook as GridLedger {
         if !is_within(held) {
             return Err(Fault::found(Reason::Reach));
         }
-        Ok(Quote { held, low: held, high: held })
+        Ok(Quote {
+            held,
+            low: held,
+            high: held,
+        })
     }
 
     fn instruct(&mut self, i: Instruction) -> Result<Quote, Fault> {
@@ -95,7 +106,11 @@ pub impl Book for GridBook as GridListing {
             let series = p % WIDTH;
             let held = self.held.at(account, series);
             if held != 0 {
-                return Some(Holding { account, series, held });
+                return Some(Holding {
+                    account,
+                    series,
+                    held,
+                });
             }
         }
         None

@@ -72,7 +72,9 @@ module _ (taken capacity : ℕ) (held : ℕ → ℕ → ℤ) where
     ranged = flat-ranged (h +ℤ n) w;
     moves = record {
       low = record { least = omega (arith, ints, clamps); most = omega (arith, ints, clamps) };
-      high = record { least = omega (arith, ints, clamps); most = omega (arith, ints, clamps) } } }
+      high = record { least = omega (arith, ints, clamps); most = omega (arith, ints, clamps) };
+    };
+  }
 
   -- counts in reach, and none above account or series 63
   pub book-lawful : taken ≤ 64 → ((a s : ℕ) → Within (held a s)) → ((a s : ℕ) → (64 ≤ a) ⊎ (64 ≤ s) → held a s ≡ pos 0) → Lawful (book-meaning taken capacity held)
@@ -82,11 +84,12 @@ module _ (taken capacity : ℕ) (held : ℕ → ℕ → ℤ) where
     beyond = λ a s h. ap book-cell (beyond a s h);
     first = λ i f e. then-err (checked taken i) _ f e;
     quotes = λ i q e.
-      let k = book-ok i q e in
-      let cell = book-cell (held (i .account) (i .series)) in
-      let quoted = subst (Quotes Fill (i .amount) cell) (sym (k .is)) (fill-quotes _ (i .amount) (k .reach)) in
-      subst (λ a. Quotes a (i .amount) cell q) (sym (k .fill)) quoted;
-    idle = λ u a s. ap book-cell (u a s) }
+        let k = book-ok i q e in
+        let cell = book-cell (held (i .account) (i .series)) in
+        let quoted = subst (Quotes Fill (i .amount) cell) (sym (k .is)) (fill-quotes _ (i .amount) (k .reach)) in
+        subst (λ a. Quotes a (i .amount) cell q) (sym (k .fill)) quoted;
+    idle = λ u a s. ap book-cell (u a s);
+  }
 
   pub book-laws : ((a s : ℕ) → taken ≤ a → held a s ≡ pos 0) → held-cells held ≤ capacity → BookLaws (book-meaning taken capacity held) capacity
   book-laws untaken room = record {
@@ -94,7 +97,8 @@ module _ (taken capacity : ℕ) (held : ℕ → ℕ → ℤ) where
     untaken = λ a s h. ap book-cell (untaken a s h);
     quotes = λ i. refl;
     unused = λ u. u;
-    room = room }
+    room = room;
+  }
 
 quote-cell : Action → ℤ → Quote → Cell
 quote-cell a n q = record { held = q .held; low = q .low; high = q .high; buys = pos 0 +ℤ step a n .buys; sells = pos 0 +ℤ step a n .sells; cover = pos 0 +ℤ step a n .cover }

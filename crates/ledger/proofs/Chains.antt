@@ -56,6 +56,6 @@ checked-ok n i u p =
 pub obeyed-checked : (m : Meaning) → Lawful m → (i : Instruction) (q : Quote) → m .quoted i ≡ Ok q → Checked (m .taken) i
 obeyed-checked m lawful i q e = of (checked (m .taken) i) refl
   where
-  of : (r : Result (Unit {0}) Fault) → checked (m .taken) i ≡ r → Checked (m .taken) i
-  of (Ok u) p = checked-ok (m .taken) i u p
-  of (Err f) p = absurd (never f q (sym (lawful .first i f p) ∙ e))
+    of : (r : Result (Unit {0}) Fault) → checked (m .taken) i ≡ r → Checked (m .taken) i
+    of (Ok u) p = checked-ok (m .taken) i u p
+    of (Err f) p = absurd (never f q (sym (lawful .first i f p) ∙ e))

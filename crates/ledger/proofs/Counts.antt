@@ -44,11 +44,11 @@ module _ (held : ℕ → ℕ → ℤ) where
       let most = held-most n in
       ⊎-elim
       (λ f.
-        let k = one-more n f in
-        ⊎-elim
-        (λ lt. let h = held-fewer n p lt e in omega arith)
-        (λ ge. absurd (not-zero (at-place held n) f (ap (at-place held) (let q : n ≡ p = omega arith in q) ∙ e)))
-        (cases-lt p n))
+      let k = one-more n f in
+      ⊎-elim
+      (λ lt. let h = held-fewer n p lt e in omega arith)
+      (λ ge. absurd (not-zero (at-place held n) f (ap (at-place held) (let q : n ≡ p = omega arith in q) ∙ e)))
+      (cases-lt p n))
       (λ f. let k = no-more n f in omega arith)
       (cases-bool (nonzero (at-place held n)))
 
@@ -59,11 +59,11 @@ module _ (held : ℕ → ℕ → ℤ) where
   held-same m (suc n) l none =
       ⊎-elim
       (λ f. ⊎-elim
-        (λ lt. let h = held-same m n (omega arith) none in absurd (not-zero (at-place held n) f (none n (omega arith))))
-        (λ ge. ap (held-below held) (let e : suc n ≡ m = omega arith in e))
-        (cases-lt m (suc n)))
+      (λ lt. let h = held-same m n (omega arith) none in absurd (not-zero (at-place held n) f (none n (omega arith))))
+      (λ ge. ap (held-below held) (let e : suc n ≡ m = omega arith in e))
+      (cases-lt m (suc n)))
       (λ f. ⊎-elim
-        (λ lt. no-more n f ∙ held-same m n (omega arith) none)
-        (λ ge. ap (held-below held) (let e : suc n ≡ m = omega arith in e))
-        (cases-lt m (suc n)))
+      (λ lt. no-more n f ∙ held-same m n (omega arith) none)
+      (λ ge. ap (held-below held) (let e : suc n ≡ m = omega arith in e))
+      (cases-lt m (suc n)))
       (cases-bool (nonzero (at-place held n)))

@@ -49,7 +49,8 @@ book-meaning taken capacity held = record {
   cell = λ a s. book-cell (held a s);
   taken = taken;
   quoted = book-answer taken capacity held;
-  unused = (a s : ℕ) → held a s ≡ pos 0 }
+  unused = (a s : ℕ) → held a s ≡ pos 0;
+}
 
 -- the counts that a ledger holds
 abbrev pub counts : Meaning → ℕ → ℕ → ℤ

@@ -63,10 +63,13 @@ pub record Quotes (a : Action) (n : ℤ) (c : Cell) (q : Quote) : Type 0 where
 -- the cell after an obeyed instruction: held, low and high as quoted, rests and cover moved by the step
 abbrev pub after : Cell → Instruction → Quote → Cell
 after c i q = record {
-  held = q .held; low = q .low; high = q .high;
+  held = q .held;
+  low = q .low;
+  high = q .high;
   buys = c .buys +ℤ step (i .action) (i .amount) .buys;
   sells = c .sells +ℤ step (i .action) (i .amount) .sells;
-  cover = c .cover +ℤ step (i .action) (i .amount) .cover }
+  cover = c .cover +ℤ step (i .action) (i .amount) .cover;
+}
 
 -- from the cells f to the cells g: the instruction's own cell is as quoted, and every other as it was
 pub record Obeyed (f g : ℕ → ℕ → Cell) (i : Instruction) (q : Quote) : Type 0 where

@@ -54,20 +54,32 @@ impl Fault {
     pub fn found(reason: Reason) -> Fault
         ensures { λ r. ⌜ r ≡ found reason ⌝ }
     {
-        Fault { reason, depth: 0, spot: 0 }
+        Fault {
+            reason,
+            depth: 0,
+            spot: 0,
+        }
     }
 
     // The refusal of a line at a column.
     pub fn misfit(column: usize) -> Fault
         ensures { λ r. ⌜ r ≡ misfit column ⌝ }
     {
-        Fault { reason: Reason::Line, depth: 0, spot: column }
+        Fault {
+            reason: Reason::Line,
+            depth: 0,
+            spot: column,
+        }
     }
 
     // The same refusal, seen one layer above.
     pub fn deeper(self) -> Fault
         ensures { λ r. ⌜ r ≡ deeper self ⌝ }
     {
-        Fault { reason: self.reason, depth: self.depth.saturating_add(1), spot: self.spot }
+        Fault {
+            reason: self.reason,
+            depth: self.depth.saturating_add(1),
+            spot: self.spot,
+        }
     }
 }

@@ -19,14 +19,23 @@ pub fn read_below<L: Ledger>(below: &L, account: usize, series: usize) -> Cell
 }
 
 // The quote of what is sent below, or the cell as it stands there where nothing is.
-pub fn ask_below<L: Ledger>(below: &L, account: usize, series: usize, down: Option<Instruction>) -> Result<Quote, Fault>
+pub fn ask_below<L: Ledger>(
+    below: &L,
+    account: usize,
+    series: usize,
+    down: Option<Instruction>,
+) -> Result<Quote, Fault>
     ensures answer { λ r. ⌜ r ≡ asked (meaning (now (below .entry))) account series down ⌝ }
     ensures ranged { λ r. ⌜ made r (λ q. Ranged q) ⌝ }
 {
     match down {
         None => {
             let cell = read_below(below, account, series);
-            Ok(Quote { held: cell.held, low: cell.low, high: cell.high })
+            Ok(Quote {
+                held: cell.held,
+                low: cell.low,
+                high: cell.high,
+            })
         }
         Some(j) => match below.quote(j) {
             Ok(q) => Ok(q),

@@ -32,9 +32,19 @@ mod tests {
     use std::test::*;
 
     // One instruction for account 0.
-    fn tell<L: Ledger>(ledger: &mut L, letter: char, series: usize, amount: i64) -> Result<Quote, Fault> {
+    fn tell<L: Ledger>(
+        ledger: &mut L,
+        letter: char,
+        series: usize,
+        amount: i64,
+    ) -> Result<Quote, Fault> {
         let action = Action::from_letter(letter)?;
-        ledger.instruct(Instruction { action, account: 0, series, amount })
+        ledger.instruct(Instruction {
+            action,
+            account: 0,
+            series,
+            amount,
+        })
     }
 
     fn range<L: Ledger>(ledger: &L, series: usize) -> (i64, i64) {
@@ -89,7 +99,14 @@ mod tests {
         tell(&mut orders, 'K', 0, 1_000_000_000)?;
         tell(&mut orders, 'S', 0, 5)?;
         let before = orders.cell(0, 0);
-        check_eq(tell(&mut orders, 'G', 0, 5), Err(Fault { reason: Reason::Reach, depth: 2, spot: 0 }))?;
+        check_eq(
+            tell(&mut orders, 'G', 0, 5),
+            Err(Fault {
+                reason: Reason::Reach,
+                depth: 2,
+                spot: 0,
+            }),
+        )?;
         check_eq(orders.cell(0, 0), before)
     }
 
@@ -100,7 +117,14 @@ mod tests {
         tell(&mut spans, 'F', 1, 4)?;
         tell(&mut spans, 'S', 1, 3)?;
         check_eq(range(&spans, 1), (-3, 4))?;
-        check_eq(tell(&mut spans, 'K', 0, 1), Err(Fault { reason: Reason::NoTaker, depth: 3, spot: 0 }))
+        check_eq(
+            tell(&mut spans, 'K', 0, 1),
+            Err(Fault {
+                reason: Reason::NoTaker,
+                depth: 3,
+                spot: 0,
+            }),
+        )
     }
 
     // Whole rows of 64 numbers, at most 64; the rest of the memory stays, also after a fill.
@@ -113,8 +137,14 @@ mod tests {
             let _ = tell(&mut book, 'F', 0, 9);
             let memory = book.into_memory();
             check_eq(memory.len(), numbers)?;
-            check_eq(memory.get(0).copied().unwrap_or(7), if accounts > 0 { 9 } else { 7 })?;
-            check_eq(memory.last().copied().unwrap_or(7), if numbers == 64 { 0 } else { 7 })?;
+            check_eq(
+                memory.get(0).copied().unwrap_or(7),
+                if accounts > 0 { 9 } else { 7 },
+            )?;
+            check_eq(
+                memory.last().copied().unwrap_or(7),
+                if numbers == 64 { 0 } else { 7 },
+            )?;
         }
         Ok(())
     }
@@ -122,7 +152,13 @@ mod tests {
     #[test]
     fn an_entry_book_serves_a_freed_record_again(rt: LibcRuntime) -> Result<(), Fail> {
         let heap = rt.alloc();
-        let mut book = EntryBook::new(vec![in heap; Entry { account: 9, series: 9, held: 9 }; 1]?);
+        let mut book = EntryBook::new(
+            vec![in heap; Entry {
+                account: 9,
+                series: 9,
+                held: 9
+            }; 1]?,
+        );
         tell(&mut book, 'F', 0, 1)?;
         check_eq(tell(&mut book, 'F', 2, 1), Err(Fault::found(Reason::Full)))?;
         tell(&mut book, 'F', 0, -1)?;
@@ -133,7 +169,11 @@ mod tests {
     #[test]
     fn entry_memory(rt: LibcRuntime) -> Result<(), Fail> {
         let heap = rt.alloc();
-        let stale = Entry { account: 1, series: 2, held: 3 };
+        let stale = Entry {
+            account: 1,
+            series: 2,
+            held: 3,
+        };
         let mut none = EntryBook::new(Vec::new(heap));
         check_eq(tell(&mut none, 'F', 0, 1), Err(Fault::found(Reason::Full)))?;
         let mut book = EntryBook::new(vec![in heap; stale; 4097]?);
@@ -147,7 +187,11 @@ mod tests {
 
     #[test]
     fn depth_stays_at_255() -> Result<(), Fail> {
-        let deep = Fault { reason: Reason::Rest, depth: 254, spot: 0 };
+        let deep = Fault {
+            reason: Reason::Rest,
+            depth: 254,
+            spot: 0,
+        };
         check_eq(deep.deeper().depth, 255)?;
         check_eq(deep.deeper().deeper().depth, 255)
     }
@@ -155,8 +199,17 @@ mod tests {
     #[test]
     fn the_least_amount_is_refused(rt: LibcRuntime) -> Result<(), Fail> {
         let mut book = grid_of(rt.alloc(), 64)?;
-        check_eq(tell(&mut book, 'F', 0, i64::MIN), Err(Fault::found(Reason::Amount)))?;
-        check_eq(tell(&mut book, 'F', 64, 1), Err(Fault::found(Reason::Unknown)))?;
-        check_eq(tell(&mut book, 'x', 0, 1), Err(Fault::found(Reason::Unknown)))
+        check_eq(
+            tell(&mut book, 'F', 0, i64::MIN),
+            Err(Fault::found(Reason::Amount)),
+        )?;
+        check_eq(
+            tell(&mut book, 'F', 64, 1),
+            Err(Fault::found(Reason::Unknown)),
+        )?;
+        check_eq(
+            tell(&mut book, 'x', 0, 1),
+            Err(Fault::found(Reason::Unknown)),
+        )
     }
 }

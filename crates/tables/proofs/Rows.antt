@@ -27,10 +27,10 @@ unfolding number
 number-zero xs n a s zero =
     ⊎-elim
     (λ e.
-      let p = and-parts _ _ e in
-      let u = ltb-true s 64 (p .0) in
-      let v = ltb-true a n (p .1) in
-      cond-true _ _ _ e ∙ zero (64 * a + s) (omega arith))
+    let p = and-parts _ _ e in
+    let u = ltb-true s 64 (p .0) in
+    let v = ltb-true a n (p .1) in
+    cond-true _ _ _ e ∙ zero (64 * a + s) (omega arith))
     (λ e. cond-false _ _ _ e)
     (cases-bool (ltb s 64 && ltb a n))
 
@@ -49,8 +49,8 @@ unfolding number
 number-set-other xs n a s b r z p ne =
     ⊎-elim
     (λ e.
-      let u = ltb-true r 64 (and-parts _ _ e .0) in
-      let apart : 64 * b + r ≢ 64 * a + s = λ i. ne (omega arith) (omega arith) in
-      ap (λ x. cond (ltb r 64 && ltb b n) x (pos 0)) (getD-set-other xs (64 * a + s) (64 * b + r) z (pos 0) apart))
+    let u = ltb-true r 64 (and-parts _ _ e .0) in
+    let apart : 64 * b + r ≢ 64 * a + s = λ i. ne (omega arith) (omega arith) in
+    ap (λ x. cond (ltb r 64 && ltb b n) x (pos 0)) (getD-set-other xs (64 * a + s) (64 * b + r) z (pos 0) apart))
     (λ e. cond-false _ _ _ e ∙ sym (cond-false _ _ _ e))
     (cases-bool (ltb r 64 && ltb b n))

@@ -37,4 +37,5 @@ pub untouched-onward : (t u v : Table) → Untouched t u → Untouched u v → U
 untouched-onward t u v p q = record {
   long = q .long ∙ p .long;
   rows = q .rows ∙ p .rows;
-  past = λ k h. q .past k (let e = p .rows in omega arith) ∙ p .past k h }
+  past = λ k h. q .past k (let e = p .rows in omega arith) ∙ p .past k h;
+}

@@ -9,7 +9,9 @@ use std::alloc::AllocError;
 use std::alloc::Global;
 
 const SERIES: usize = 64;
+
 const MOST_ROWS: usize = 64;
+
 const CELLS: usize = 4096;
 
 // One number for each cell of whole rows of 64, at most 64 rows. What the memory has past them is never touched.

@@ -24,10 +24,11 @@ loop-line-again g c =
     let lines = c .args .lines .now in
     let k = c .loop-line .line-index in
     let inv = c .loop-line .inv in
-    let pushed = c .push-reserved .ensures in
-    (omega arith,
-     omega arith,
-     run-next R now buffer x (c .loop-line .ledger) z lines k _ (vec-items (c .loop-line .answers)) _ (c .serve-line .result) (c .loop-line-test .taken) (inv .2) (c .serve-line .ensures) (pushed .items))
+    let pushed = c .push-reserved .ensures in (
+      omega arith,
+      omega arith,
+      run-next R now buffer x (c .loop-line .ledger) z lines k _ (vec-items (c .loop-line .answers)) _ (c .serve-line .result) (c .loop-line-test .taken) (inv .2) (c .serve-line .ensures) (pushed .items),
+    )
 
 pub returns : need.returns
 returns g c =
@@ -35,4 +36,5 @@ returns g c =
     let lines = c .args .lines .now in
     record {
       made = subst (λ ls. Run R (c .args .ledger .now) (map now ls) (map buffer (vec-items (c .loop-line .answers))) (c .loop-line .ledger)) (take-all (c .loop-line .line-index) lines (c .loop-line-test .left)) (c .loop-line .inv .2);
-      refused = tt }
+      refused = tt;
+    }

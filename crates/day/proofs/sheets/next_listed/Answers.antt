@@ -6,4 +6,5 @@ returns g c =
     let book = c .args .book .now in
     record {
       first = c .next-held .ensures;
-      inside = inside (g .B·Ledger .meaning book) (g .B·Ledger·met .lawful book) (c .args .from) (c .next-held .result) (c .next-held .ensures) }
+      inside = inside (g .B·Ledger .meaning book) (g .B·Ledger·met .lawful book) (c .args .from) (c .next-held .result) (c .next-held .ensures);
+    }

@@ -23,5 +23,5 @@ returns c =
     let run = subst (λ ls. Run (Serves meaning-of Kept) first (map now ls) (map buffer answers) last) (c .as-slice .ensures .value) (c .in-Continue-answers .ensures tt .made) in
     made-weaker _ _ (c .add-sheet .result)
     (λ v sheet. day-of text first last lines answers (vec-items v) (c .in-Continue-stack .ensures tt) (c .in-Continue-lines .ensures tt) run
-      (subst (λ (b : GridBook). AddsSheet (grid-meaning (b .held) .cell) answers (vec-items v)) book sheet))
+    (subst (λ (b : GridBook). AddsSheet (grid-meaning (b .held) .cell) answers (vec-items v)) book sheet))
     (c .add-sheet .ensures)

@@ -21,6 +21,9 @@ returns g c =
         answer = c .in-Continue-quote .ensures tt;
         left = record {
           here = ap span-cell (o .here) ∙ ap (λ (q : Quote). after was i q) (sym (k .is));
-          elsewhere = λ a s ne. ap span-cell (o .elsewhere a s ne) };
-        taken = below .taken };
-      kept = tt }
+          elsewhere = λ a s ne. ap span-cell (o .elsewhere a s ne);
+        };
+        taken = below .taken;
+      };
+      kept = tt;
+    }

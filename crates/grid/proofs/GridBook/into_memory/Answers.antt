@@ -11,4 +11,5 @@ returns c =
     let t = c .args .self .held in
     record {
       whole = c .into-memory .ensures;
-      counts = λ a s p q. ap (λ xs. getD xs (place a s) (pos 0)) (c .into-memory .ensures) ∙ sym (number-in (items t) (rows-of t) a s q p) }
+      counts = λ a s p q. ap (λ xs. getD xs (place a s) (pos 0)) (c .into-memory .ensures) ∙ sym (number-in (items t) (rows-of t) a s q p);
+    }

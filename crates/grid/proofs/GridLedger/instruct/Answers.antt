@@ -32,6 +32,9 @@ returns c =
         answer = e;
         left = record {
           here = ap book-cell (w .here (f .checks .series) (f .checks .account)) ∙ filled-after _ _ _ (c .args .i) q f;
-          elsewhere = λ a s ne. ap book-cell (w .elsewhere a s ne) };
-        taken = w .untouched .rows };
-      kept = w .untouched }
+          elsewhere = λ a s ne. ap book-cell (w .elsewhere a s ne);
+        };
+        taken = w .untouched .rows;
+      };
+      kept = w .untouched;
+    }

@@ -30,10 +30,10 @@ returns c =
     let w : true ≡ within (c .at .result +ℤ i .amount) = simp toZ-ofZ at (c .if-not-is-within .ensures tt) in
     let taken = c .rows .ensures in
     let yes =
-        book-yes (rows-of t) (grid-capacity t) (at t) i (c .in-Continue-check .field-0)
-        (ap (λ n. checked n i) (sym taken) ∙ sym (k .answer))
-        (sym (c .if-not-is-fill .ensures tt))
-        (ap (λ z. within (z +ℤ i .amount)) (sym e) ∙ sym w)
-        (room t i (omega (arith, k .passed .account, taken)) (k .passed .series)) in
+    book-yes (rows-of t) (grid-capacity t) (at t) i (c .in-Continue-check .field-0)
+    (ap (λ n. checked n i) (sym taken) ∙ sym (k .answer))
+    (sym (c .if-not-is-fill .ensures tt))
+    (ap (λ z. within (z +ℤ i .amount)) (sym e) ∙ sym w)
+    (room t i (omega (arith, k .passed .account, taken)) (k .passed .series)) in
     let sum : _≡_ {A = Answer} (Ok (flat (c .at .result +ℤ i .amount))) (Ok (flat (at t (i .account) (i .series) +ℤ i .amount))) = ap (λ z. Ok (flat (z +ℤ i .amount))) e in
     simp toZ-ofZ (sum ∙ sym yes)

@@ -18,16 +18,17 @@ loop-p-again c =
     let p = c .loop-p .p in
     let t = c .args .self .now .held in
     let f : SFits w64 (c .at-held .result) = search needs in
-    let zero : at t (p / 64) (p % 64) ≡ pos 0 = sym (c .at-held .ensures) ∙ sym (toZ-ofZ w64 _ f) ∙ ap (toZ w64) (c .if-held-ne0 .left) in
-    (omega arith,
-     λ a s l from before.
-       ⊎-elim
-       (λ lt. c .loop-p .inv .1 a s l from lt)
-       (λ ge.
-         let e : a ≡ p / 64 = omega arith in
-         let g : s ≡ p % 64 = omega arith in
-         ap (λ n. at t n s) e ∙ ap (at t (p / 64)) g ∙ zero)
-       (cases-lt (place a s) p))
+    let zero : at t (p / 64) (p % 64) ≡ pos 0 = sym (c .at-held .ensures) ∙ sym (toZ-ofZ w64 _ f) ∙ ap (toZ w64) (c .if-held-ne0 .left) in (
+      omega arith,
+      λ a s l from before.
+          ⊎-elim
+          (λ lt. c .loop-p .inv .1 a s l from lt)
+          (λ ge.
+          let e : a ≡ p / 64 = omega arith in
+          let g : s ≡ p % 64 = omega arith in
+          ap (λ n. at t n s) e ∙ ap (at t (p / 64)) g ∙ zero)
+          (cases-lt (place a s) p),
+    )
 
 pub returns : need.returns
 returns c a s l from =
@@ -47,6 +48,8 @@ returns-then-held-ne0 c =
       held = record {
         series = omega arith;
         count = e ∙ c .at-held .ensures;
-        held = λ z. c .if-held-ne0 .taken (ap (ofZ w64) (sym e ∙ z)) };
+        held = λ z. c .if-held-ne0 .taken (ap (ofZ w64) (sym e ∙ z));
+      };
       onward = omega arith;
-      first = λ a s l h. c .loop-p .inv .1 a s l (h .0) (omega arith) }
+      first = λ a s l h. c .loop-p .inv .1 a s l (h .0) (omega arith);
+    }

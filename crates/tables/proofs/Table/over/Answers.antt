@@ -13,4 +13,5 @@ returns c =
       long = omega arith;
       rows = omega arith;
       zero = λ a s. number-zero _ _ a s (λ k h. inv .1 k (omega arith));
-      past = λ k h. inv .2 k (omega arith) }
+      past = λ k h. inv .2 k (omega arith);
+    }

@@ -23,4 +23,6 @@ returns c =
       untouched = record {
         long = simp length-set;
         rows = refl;
-        past = λ k h. getD-set-other xs (64 * a + s) k _ _ (λ e. omega arith) } }
+        past = λ k h. getD-set-other xs (64 * a + s) k _ _ (λ e. omega arith);
+      };
+    }
