@@ -1,13 +1,13 @@
 -- The laws of the cover layer, from those of the ledger below. Assumes nothing.
 use mathlib.Core.Path.{_≡_, refl, sym, ap, subst, _∙_}
-use mathlib.Core.Bool.{Bool, true, false, cond}
+use mathlib.Core.Bool.{true, false}
 use mathlib.Core.Logic.{_⊎_, inl, inr, ⊎-elim}
 use Prim.Native.Nat.{ℕ, _≤_, _<_}
 use native.Mathlib.Omega.{arith}
 use lib.IntN.{ℤ, pos, _+ℤ_}
 use lib.Signed.{leZ, ltZ, _≤ℤ_, _<ℤ_}
 use Rattle.std.specs.Numbers.{minZ}
-use Rattle.std.specs.declared.option.Option.the-variants.{Some, None}
+use Rattle.std.specs.declared.option.Option.the-variants.{Some}
 use Rattle.std.specs.declared.result.Result.the-variants.{Ok}
 use Rattle.std.proofs.shelf.Tests.{cases-bool, cond-true, cond-false}
 use Rattle.std.proofs.shelf.Signed.{ints, clamps}
@@ -25,7 +25,7 @@ use Rattle.ledger.specs.Layers.{raised, asked, Passed}
 use Rattle.ledger.proofs.Below.{plus-zero, same-numbers, asked-quotes, still-quotes, asked-ranged, Under, under-none, under-some}
 use Rattle.ledger.proofs.Chains.{unless-ok, then-ok, then-err, checked-ok}
 use Rattle.tables.specs.declared.Table.{Table}
-use Rattle.tables.specs.Tables.{at, rows-of, Wrote}
+use Rattle.tables.specs.Tables.{at, Wrote}
 use Rattle.tables.proofs.Rows.{number-out}
 use Rattle.tables.proofs.Writes.{wrote-all}
 use Rattle.cover.specs.Covering.{Cover-in, Covered, with-cover, cover-cell, cover-quote, cover-sent, fitting, cover-answer, cover-after, cover-meaning}

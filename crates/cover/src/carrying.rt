@@ -1,6 +1,5 @@
 // How the cover layer carries instructions.
 ghost use mathlib.Core.Path.{_≡_};
-ghost use Prim.Native.Nat.{ℕ};
 ghost use Rattle.ledger.specs.Actions.{Within};
 ghost use Rattle.ledger.specs.Cells.{Ranged};
 ghost use Rattle.cover.specs.Covering.{with-cover, cover-quote, cover-sent, fitting, cover-after, cover-meaning, Cover-in};

@@ -1,13 +1,13 @@
 -- The laws of the order layer, from those of the ledger below. Assumes nothing.
 use mathlib.Core.Path.{_≡_, refl, sym, ap, subst, _∙_}
-use mathlib.Core.Bool.{Bool, true, _&&_}
+use mathlib.Core.Bool.{true, _&&_}
 use mathlib.Core.Logic.{_⊎_, inl, inr, ⊎-elim}
 use Prim.Native.Nat.{ℕ, _≤_, _<_}
 use native.Mathlib.Omega.{arith}
 use lib.IntN.{ℤ, pos, negℤ, _+ℤ_, _-ℤ_}
 use lib.Signed.{leZ, _≤ℤ_}
 use Rattle.std.specs.Numbers.{maxZ, minZ}
-use Rattle.std.specs.declared.option.Option.the-variants.{Some, None}
+use Rattle.std.specs.declared.option.Option.the-variants.{Some}
 use Rattle.std.specs.declared.result.Result.the-variants.{Ok}
 use Rattle.std.proofs.shelf.Tests.{and-parts}
 use Rattle.std.proofs.shelf.Signed.{ints, clamps}
@@ -25,7 +25,7 @@ use Rattle.ledger.specs.Layers.{raised, asked, as-fill, Passed}
 use Rattle.ledger.proofs.Below.{same-numbers, asked-quotes, still-quotes, asked-ranged, Under, under-none, under-some}
 use Rattle.ledger.proofs.Chains.{unless-ok, then-ok, then-err, within-in, checked-ok}
 use Rattle.tables.specs.declared.Table.{Table}
-use Rattle.tables.specs.Tables.{at, rows-of, Wrote}
+use Rattle.tables.specs.Tables.{at, Wrote}
 use Rattle.tables.proofs.Rows.{number-out}
 use Rattle.tables.proofs.Writes.{same-cell, wrote-all}
 use Rattle.orders.specs.Resting.{Rest-in, Near, Resting, order-cell, Plain, order-sent, enough, widened, in-reach, order-answer, buys-after, sells-after, order-meaning}

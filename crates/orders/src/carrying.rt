@@ -1,6 +1,5 @@
 // How the order layer carries instructions.
 ghost use mathlib.Core.Path.{_≡_};
-ghost use Prim.Native.Nat.{ℕ};
 ghost use lib.IntN.{ℤ, _+ℤ_};
 ghost use Rattle.ledger.specs.Actions.{step, Within};
 ghost use Rattle.ledger.specs.Cells.{Ranged};
