@@ -1,8 +1,7 @@
 -- The cover layer: assets set aside for the delivery of calls, above a ledger. Assumes nothing.
 use mathlib.Core.Path.{_≡_}
 use mathlib.Core.Bool.{Bool, true, false, cond}
-use Prim.Native.Nat.{ℕ, _%_}
-use lib.Dec.{eqb}
+use Prim.Native.Nat.{ℕ}
 use lib.IntN.{ℤ, pos, _+ℤ_}
 use lib.Signed.{leZ, ltZ, _≤ℤ_}
 use Rattle.std.specs.Numbers.{minZ}
@@ -16,6 +15,7 @@ use Rattle.ledger.specs.declared.cells.Cell.{Cell}
 use Rattle.ledger.specs.declared.cells.Quote.{Quote}
 use Rattle.ledger.specs.declared.cells.Instruction.{Instruction}
 use Rattle.ledger.specs.Actions.{reach, step}
+use Rattle.ledger.specs.Cells.{isCall}
 use Rattle.ledger.specs.Checks.{Answer, checked, unless, _then_}
 use Rattle.ledger.specs.Meanings.{Meaning}
 use Rattle.ledger.specs.Layers.{asked}
@@ -57,10 +57,6 @@ isCover TakeCover = true
 -- what is sent down: nothing by an action of its own, all else is passed on
 abbrev pub cover-sent : Action → Instruction → Option Instruction
 cover-sent a i = cond (isCover a) None (Some i)
-
--- calls have even series
-abbrev pub isCall : ℕ → Bool
-isCall s = eqb (s % 2) 0
 
 -- only calls are covered
 abbrev pub fitting : Action → ℕ → Bool

@@ -2,7 +2,11 @@
 ghost use mathlib.Core.Path.{_≡_};
 ghost use Rattle.ledger.specs.Actions.{Within};
 ghost use Rattle.ledger.specs.Cells.{Ranged};
-ghost use Rattle.cover.specs.Covering.{with-cover, cover-quote, cover-sent, fitting, cover-after, cover-meaning, Cover-in};
+ghost use Rattle.ledger.specs.Layers.{Passed};
+ghost use Rattle.ledger.specs.Meanings.{Instructed};
+ghost use Rattle.std.specs.Vec.{made};
+ghost use Rattle.cover.specs.Covering.{with-cover, cover-quote, cover-sent, fitting, cover-after, Cover-in};
+ghost use Rattle.cover.specs.Keeping.{layer-meaning, LayerKeeps};
 use crate::CoverLayer;
 use ledger::actions::Action;
 use ledger::cells::Cell;
@@ -73,9 +77,9 @@ impl<L: Ledger> CoverLayer<L> {
 }
 
 pub impl<L: Ledger> Ledger for CoverLayer<L> as CoverLedger {
-    ghost meaning = { λ x. cover-meaning (L·Ledger .meaning (x .below)) (x .cover) };
+    ghost meaning = { layer-meaning (L·Ledger .meaning) };
 
-    ghost keeps = { λ x y. L·Ledger .keeps (x .below) (y .below) };
+    ghost keeps = { LayerKeeps (L·Ledger .keeps) };
 
     fn accounts(&self) -> usize {
         self.below.accounts()
@@ -120,7 +124,12 @@ pub impl<L: Ledger> Ledger for CoverLayer<L> as CoverLedger {
         Ok(covered(below, cover))
     }
 
-    fn instruct(&mut self, i: Instruction) -> Result<Quote, Fault> {
+    // Obeyed, the ledger below has carried out what was sent down, and nothing else has happened to it.
+    fn instruct(&mut self, i: Instruction) -> Result<Quote, Fault>
+        ensures carried { λ r. ⌜ Instructed (layer-meaning (L·Ledger .meaning)) (now (self .entry)) (now (self .exit)) i r ⌝ }
+        ensures kept { λ _. ⌜ LayerKeeps (L·Ledger .keeps) (now (self .entry)) (now (self .exit)) ⌝ }
+        ensures sent { λ r. ⌜ made r (λ _. Passed (L·Ledger .meaning) (now (self .entry) .below) (now (self .exit) .below) (cover-sent (i .action) i)) ⌝ }
+    {
         let quote = self.quote(i)?;
         let cover = self.cover_after(i);
         send_below(&mut self.below, sent(i));

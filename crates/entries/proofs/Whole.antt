@@ -9,7 +9,7 @@ use lib.Dec.{eqb}
 use lib.IntN.{ℤ, pos}
 use lib.ListN.{set}
 use lib.Seq.{getD-set-same, getD-set-other}
-use Rattle.std.specs.Of.Vec.{vec-items, vec-len}
+use Rattle.std.specs.Of.Vec.{vec-items, vec-len, vec-cap}
 use Rattle.std.specs.declared.vec.Vec.{Vec}
 use Rattle.std.specs.declared.alloc.Global.{Global}
 use Rattle.std.proofs.shelf.Tests.{and-cases, cases-lt, eqb-false, not-true, not-false}
@@ -50,10 +50,10 @@ wrote-from x y a s n len here elsewhere =
     record { here = same a s ∙ here; elsewhere = λ b r ne. same b r ∙ elsewhere b r ne }
 
 -- an exchange below the capacity moves nothing past it
-pub exchange-keeps : (x y : EntryBook) (from to end : ℕ) (e : Entry) → end ≡ capacity-of x → from < end → to < end → items y ≡ exchanged (items x) from to e → vec-len (y .records) ≡ vec-len (x .records) → Keeps x y
-exchange-keeps x y from to end e full l m is len =
+pub exchange-keeps : (x y : EntryBook) (from to end : ℕ) (e : Entry) → end ≡ capacity-of x → from < end → to < end → items y ≡ exchanged (items x) from to e → vec-len (y .records) ≡ vec-len (x .records) → vec-cap (y .records) ≡ vec-cap (x .records) → Keeps x y
+exchange-keeps x y from to end e full l m is len space =
     let long = x .records .ok .0 in
-    record { long = len; past = λ j past. ap (λ zs. nth zs j) is ∙ past-both (items x) from to e (omega arith) (omega arith) j (omega arith) (omega arith) }
+    record { space = space; long = len; past = λ j past. ap (λ zs. nth zs j) is ∙ past-both (items x) from to e (omega arith) (omega arith) j (omega arith) (omega arith) }
 
 -- the record e is put in at k
 module _ (x : EntryBook) (k end : ℕ) (e : Entry) (full : end ≡ capacity-of x) (gap : Gap (items x) (x .live) (place-of e) k) (live : Live e) (space : x .live < capacity-of x) where
@@ -107,10 +107,10 @@ module _ (x : EntryBook) (k : ℕ) (e : Entry) (l : k < x .live) (at : place-of 
       (into _ _ ∙ replaced-here (items x) (set (items x) k e) (x .live) k (capacity-of x) e (ordered x) over l (sym at) live)
       (λ b r ne. into b r ∙ replaced-elsewhere (items x) (set (items x) k e) (x .live) k (capacity-of x) e (ordered x) over l (sym at) live b r ne)
 
-  pub over-keeps : (y : EntryBook) → items y ≡ set (items x) k e → vec-len (y .records) ≡ vec-len (x .records) → Keeps x y
-  over-keeps y is len =
+  pub over-keeps : (y : EntryBook) → items y ≡ set (items x) k e → vec-len (y .records) ≡ vec-len (x .records) → vec-cap (y .records) ≡ vec-cap (x .records) → Keeps x y
+  over-keeps y is len space =
       let fits = x .fits in
-      record { long = len; past = λ j past. ap (λ zs. nth zs j) is ∙ over .elsewhere j (λ q. omega arith) }
+      record { space = space; long = len; past = λ j past. ap (λ zs. nth zs j) is ∙ over .elsewhere j (λ q. omega arith) }
 
 -- each held cell has its record, and each held record its cell
 pub returned : (x : EntryBook) → Returned x (items x)

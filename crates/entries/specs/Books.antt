@@ -4,7 +4,7 @@ use mathlib.Core.List.{List}
 use Prim.Native.Nat.{ℕ, _≤_, _<_}
 use lib.IntN.{ℤ, pos}
 use lib.ListN.{length}
-use Rattle.std.specs.Of.Vec.{vec-items, vec-len}
+use Rattle.std.specs.Of.Vec.{vec-items, vec-len, vec-cap}
 use Rattle.entries.specs.declared.records.Entry.{Entry}
 use Rattle.entries.specs.declared.book.EntryBook.{EntryBook}
 use Rattle.entries.specs.Records.{entry, nth, room, held-in}
@@ -21,8 +21,9 @@ capacity-of x = room (vec-len (x .records))
 abbrev pub held-at : EntryBook → ℕ → ℕ → ℤ
 held-at x a s = held-in (items x) (capacity-of x) a s
 
--- from x to y the memory stays as long, and past the capacity as it was
+-- from x to y the memory stays as long and does not grow, and past the capacity it is as it was
 pub record Keeps (x y : EntryBook) : Type 0 where
+  pub space : vec-cap (y .records) ≡ vec-cap (x .records)
   pub long : vec-len (y .records) ≡ vec-len (x .records)
   pub past : (k : ℕ) → capacity-of x ≤ k → nth (items y) k ≡ nth (items x) k
 
@@ -43,7 +44,7 @@ pub record Cleared (xs : List Entry) (x : EntryBook) : Type 0 where
   pub past : (k : ℕ) → capacity-of x ≤ k → nth (items x) k ≡ nth xs k
   pub none : (a s : ℕ) → held-at x a s ≡ pos 0
 
--- two records of one cell, up to an end
+-- two held records of one cell, up to an end
 pub record Twins (xs : List Entry) (end j k : ℕ) : Type 0 where
   pub below : (j < end) × (k < end)
   pub held : (nth xs j .held ≡ pos 0 → ⊥) × (nth xs k .held ≡ pos 0 → ⊥)

@@ -1,6 +1,8 @@
 -- The six numbers of a cell, and what an instruction may do to them. Assumes nothing.
 use mathlib.Core.Path.{_≡_}
-use Prim.Native.Nat.{ℕ}
+use mathlib.Core.Bool.{Bool}
+use Prim.Native.Nat.{ℕ, _%_}
+use lib.Dec.{eqb}
 use lib.IntN.{ℤ, pos, _+ℤ_, _-ℤ_}
 use lib.Signed.{_≤ℤ_}
 use Rattle.std.specs.Numbers.{maxZ, minZ}
@@ -10,6 +12,10 @@ use Rattle.ledger.specs.declared.cells.Cell.{Cell}
 use Rattle.ledger.specs.declared.cells.Quote.{Quote}
 use Rattle.ledger.specs.declared.cells.Instruction.{Instruction}
 use Rattle.ledger.specs.Actions.{Within, step}
+
+-- a series is a call's where it is even, a put's where it is odd
+abbrev pub isCall : ℕ → Bool
+isCall s = eqb (s % 2) 0
 
 -- six zeros
 abbrev pub empty : Cell

@@ -16,7 +16,7 @@ pub record Held (cell : ℕ → ℕ → Cell) (h : Holding) : Type 0 where
   pub count : h .held ≡ cell (h .account) (h .series) .held
   pub held : h .held ≡ pos 0 → ⊥
 
--- no cell from one place up to another is held
+-- no cell is held at the places that P says
 abbrev pub NoneHeld : (ℕ → ℕ → Cell) → (ℕ → Type 0) → Type 0
 NoneHeld cell P = (a s : ℕ) → s < 64 → P (place a s) → cell a s .held ≡ pos 0
 

@@ -18,8 +18,10 @@ pub trait Book: Ledger {
     // How many cells it can hold.
     ghost capacity: { Self → ℕ };
 
+    // The laws of every book.
     law book: { (x : Self) → BookLaws (Self·Ledger .meaning x) (capacity x) };
 
+    // No instruction changes the capacity.
     law fixed: { (x y : Self) → Self·Ledger .keeps x y → capacity y ≡ capacity x };
 
     // The first held cell from a place on, where a cell's place is 64 × account + series.

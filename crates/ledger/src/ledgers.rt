@@ -15,16 +15,20 @@ pub trait Ledger {
     // What an instruction keeps besides, from the value before to the value after. Nothing is asked for here.
     ghost keeps: { Self → Self → Type 0 } = { λ _ _. Unit {0} };
 
+    // The laws of every ledger, in every value.
     law lawful: { (x : Self) → Lawful (meaning x) };
 
+    // An instruction that changes nothing keeps everything.
     law still: { (x : Self) → keeps x x };
 
+    // What each instruction of a run keeps, the run keeps.
     law onward: { (x y z : Self) → keeps x y → keeps y z → keeps x z };
 
     // How many accounts it takes, numbered from 0.
     fn accounts(&self) -> usize
         ensures { λ r. ⌜ r ≡ meaning (now (self .entry)) .taken ⌝ };
 
+    // Whether nothing is held, rests or is covered anywhere in it.
     fn unused(&self) -> bool
         ensures { λ r. ⌜ Decides r (meaning (now (self .entry)) .unused) ⌝ };
 
@@ -36,6 +40,7 @@ pub trait Ledger {
     fn quote(&self, i: Instruction) -> Result<Quote, Fault>
         ensures { λ r. ⌜ r ≡ meaning (now (self .entry)) .quoted i ⌝ };
 
+    // Answers the quote. Obeyed, the instruction's cell is as quoted; refused, nothing has changed.
     fn instruct(&mut self, i: Instruction) -> Result<Quote, Fault>
         ensures carried { λ r. ⌜ Instructed meaning (now (self .entry)) (now (self .exit)) i r ⌝ }
         ensures kept { λ _. ⌜ keeps (now (self .entry)) (now (self .exit)) ⌝ };

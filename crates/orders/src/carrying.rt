@@ -3,8 +3,12 @@ ghost use mathlib.Core.Path.{_≡_};
 ghost use lib.IntN.{ℤ, _+ℤ_};
 ghost use Rattle.ledger.specs.Actions.{step, Within};
 ghost use Rattle.ledger.specs.Cells.{Ranged};
+ghost use Rattle.ledger.specs.Layers.{Passed};
+ghost use Rattle.ledger.specs.Meanings.{Instructed};
+ghost use Rattle.std.specs.Vec.{made};
 ghost use Rattle.tables.specs.Tables.{at};
-ghost use Rattle.orders.specs.Resting.{order-meaning, order-sent, buys-after, sells-after, enough, widened, in-reach, Plain, Rest-in, Near};
+ghost use Rattle.orders.specs.Keeping.{layer-meaning, LayerKeeps};
+ghost use Rattle.orders.specs.Resting.{order-sent, buys-after, sells-after, enough, widened, in-reach, Rest-in, Near};
 use crate::OrderLayer;
 use ledger::actions::Action;
 use ledger::cells::Cell;
@@ -135,9 +139,9 @@ impl<L: Ledger> OrderLayer<L> {
 }
 
 pub impl<L: Ledger> Ledger for OrderLayer<L> as OrderLedger {
-    ghost meaning = { λ x. order-meaning (L·Ledger .meaning (x .below)) (x .buys) (x .sells) };
+    ghost meaning = { layer-meaning (L·Ledger .meaning) };
 
-    ghost keeps = { λ x y. L·Ledger .keeps (x .below) (y .below) × (Plain (L·Ledger .meaning (x .below)) (order-meaning (L·Ledger .meaning (x .below)) (x .buys) (x .sells)) → Plain (L·Ledger .meaning (y .below)) (order-meaning (L·Ledger .meaning (y .below)) (y .buys) (y .sells))) };
+    ghost keeps = { LayerKeeps (L·Ledger .meaning) (L·Ledger .keeps) };
 
     fn accounts(&self) -> usize {
         self.below.accounts()
@@ -177,7 +181,12 @@ pub impl<L: Ledger> Ledger for OrderLayer<L> as OrderLedger {
         in_reach(widened(below, rests))
     }
 
-    fn instruct(&mut self, i: Instruction) -> Result<Quote, Fault> {
+    // Obeyed, the ledger below has carried out what was sent down, and nothing else has happened to it.
+    fn instruct(&mut self, i: Instruction) -> Result<Quote, Fault>
+        ensures carried { λ r. ⌜ Instructed (layer-meaning (L·Ledger .meaning)) (now (self .entry)) (now (self .exit)) i r ⌝ }
+        ensures kept { λ _. ⌜ LayerKeeps (L·Ledger .meaning) (L·Ledger .keeps) (now (self .entry)) (now (self .exit)) ⌝ }
+        ensures sent { λ r. ⌜ made r (λ _. Passed (L·Ledger .meaning) (now (self .entry) .below) (now (self .exit) .below) (order-sent (i .action) i)) ⌝ }
+    {
         let quote = self.quote(i)?;
         let rests = self.rests_after(i);
         send_below(&mut self.below, sent(i));

@@ -31,10 +31,11 @@ pub wrote-fits : {t u : Table} {a s : ℕ} (n : ℤ) → SFits w64 n → Wrote t
 wrote-fits n f w = record { here = λ l m. w .here l m ∙ toZ-ofZ w64 n f; elsewhere = w .elsewhere; untouched = w .untouched }
 
 pub untouched-still : (t : Table) → Untouched t t
-untouched-still t = record { long = refl; rows = refl; past = λ k h. refl }
+untouched-still t = record { space = refl; long = refl; rows = refl; past = λ k h. refl }
 
 pub untouched-onward : (t u v : Table) → Untouched t u → Untouched u v → Untouched t v
 untouched-onward t u v p q = record {
+  space = q .space ∙ p .space;
   long = q .long ∙ p .long;
   rows = q .rows ∙ p .rows;
   past = λ k h. q .past k (let e = p .rows in omega arith) ∙ p .past k h;

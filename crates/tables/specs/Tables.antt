@@ -6,7 +6,7 @@ use Prim.Native.Nat.{ℕ, _+_, _*_, _/_, _≤_, _<_, min}
 use lib.Dec.{ltb}
 use lib.ListN.{getD, length}
 use lib.IntN.{ℤ, pos}
-use Rattle.std.specs.Of.Vec.{vec-items, vec-len}
+use Rattle.std.specs.Of.Vec.{vec-items, vec-len, vec-cap}
 use Rattle.tables.specs.declared.Table.{Table}
 
 -- all that its memory holds
@@ -34,8 +34,9 @@ pub record Cleared (xs : List ℤ) (t : Table) : Type 0 where
   pub zero : AllZero t
   pub past : (k : ℕ) → 64 * rows-of t ≤ k → getD (items t) k (pos 0) ≡ getD xs k (pos 0)
 
--- as many numbers and rows as before, and the memory past the rows as it was
+-- as many numbers and rows as before, in memory that has not grown, and past the rows as it was
 pub record Untouched (t u : Table) : Type 0 where
+  pub space : vec-cap (u .numbers) ≡ vec-cap (t .numbers)
   pub long : length (items u) ≡ length (items t)
   pub rows : rows-of u ≡ rows-of t
   pub past : (k : ℕ) → 64 * rows-of t ≤ k → getD (items u) k (pos 0) ≡ getD (items t) k (pos 0)

@@ -1,7 +1,7 @@
 // The memory that an entry book is made over, and gives back.
 ghost use mathlib.Core.Path.{_≡_};
 ghost use Rattle.std.specs.Of.Vec.{vec-items};
-ghost use Rattle.entries.specs.Books.{Cleared, Returned};
+ghost use Rattle.entries.specs.Books.{items, Cleared, Returned};
 use super::EntryBook;
 use super::search::MOST;
 use crate::records::Entry;
@@ -21,7 +21,8 @@ impl EntryBook {
 
     // The memory, with a record for each held cell.
     pub fn into_memory(self) -> Vec<Entry>
-        ensures { λ r. ⌜ Returned self (vec-items r) ⌝ }
+        ensures whole { λ r. ⌜ vec-items r ≡ items self ⌝ }
+        ensures counts { λ r. ⌜ Returned self (vec-items r) ⌝ }
     {
         let EntryBook { records, live: _ } = self;
         records

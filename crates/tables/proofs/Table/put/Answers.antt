@@ -21,6 +21,7 @@ returns c =
       here = λ p q. number-set-same xs (rows-of t) a s _ (omega arith) p q ∙ toZ-ofZ w64 _ (c .fits .n);
       elsewhere = λ b r ne. number-set-other xs (rows-of t) a s b r _ (omega arith) ne;
       untouched = record {
+        space = refl;
         long = simp length-set;
         rows = refl;
         past = λ k h. getD-set-other xs (64 * a + s) k _ _ (λ e. omega arith);

@@ -44,4 +44,5 @@ returns g c =
         taken = passed-taken meaning (x .below) y _ passed;
       };
       kept = c .send-below .ensures .kept;
+      sent = passed;
     }

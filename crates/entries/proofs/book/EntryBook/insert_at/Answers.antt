@@ -19,5 +19,5 @@ returns c =
     let end = c .capacity-last .ensures in
     record {
       wrote = put-wrote x (c .args .k) (c .capacity-last .result) (c .args .e) end (c .pre .gap) (c .pre .live) room _ (c .exchange .ensures .items) (c .exchange .ensures .len);
-      kept = exchange-keeps x _ (c .capacity-last .result - 1) (c .args .k) (c .capacity-last .result) _ end (omega arith) (omega arith) (c .exchange .ensures .items) (c .exchange .ensures .len);
+      kept = exchange-keeps x _ (c .capacity-last .result - 1) (c .args .k) (c .capacity-last .result) _ end (omega arith) (omega arith) (c .exchange .ensures .items) (c .exchange .ensures .len) (c .exchange .ensures .cap);
     }

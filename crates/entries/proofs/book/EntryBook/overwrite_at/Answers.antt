@@ -14,5 +14,5 @@ returns c =
     let x = c .args .self .now in
     record {
       wrote = over-wrote x (c .args .k) (c .args .e) (c .pre .below) (c .pre .cell) (c .pre .live) _ refl refl;
-      kept = over-keeps x (c .args .k) (c .args .e) (c .pre .below) (c .pre .cell) (c .pre .live) _ refl refl;
+      kept = over-keeps x (c .args .k) (c .args .e) (c .pre .below) (c .pre .cell) (c .pre .live) _ refl refl refl;
     }

@@ -18,5 +18,5 @@ returns c =
     let end = c .capacity-last .ensures in
     record {
       wrote = out-wrote x (c .args .k) (c .capacity-last .result) end (c .pre) _ (c .exchange .ensures .items) (c .exchange .ensures .len);
-      kept = exchange-keeps x _ (c .args .k) (c .capacity-last .result - 1) (c .capacity-last .result) _ end (omega arith) (omega arith) (c .exchange .ensures .items) (c .exchange .ensures .len);
+      kept = exchange-keeps x _ (c .args .k) (c .capacity-last .result - 1) (c .capacity-last .result) _ end (omega arith) (omega arith) (c .exchange .ensures .items) (c .exchange .ensures .len) (c .exchange .ensures .cap);
     }

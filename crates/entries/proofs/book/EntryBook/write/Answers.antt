@@ -27,5 +27,5 @@ returns-else-held-ne0 c =
     let zero : pos 0 ≡ c .args .held = sym (ap (toZ w64) (c .if-held-ne0 .left)) ∙ toZ-ofZ w64 _ (c .fits .held) in
     record {
       wrote = record { here = held-gap (items x) (x .live) (capacity-of x) (ordered x) _ _ (c .in-Err .k) (c .in-Err .ensures tt) ∙ zero; elsewhere = λ b r ne. refl };
-      kept = record { long = refl; past = λ j l. refl };
+      kept = record { space = refl; long = refl; past = λ j l. refl };
     }

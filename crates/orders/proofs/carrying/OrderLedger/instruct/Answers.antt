@@ -60,4 +60,5 @@ returns g c =
     record {
       carried = record { answer = c .in-Continue-quote .ensures tt; left = d .0; taken = passed-taken meaning (x .below) y _ passed };
       kept = (c .send-below .ensures .kept, d .1);
+      sent = passed;
     }
