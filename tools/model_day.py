@@ -8,7 +8,6 @@ import sys
 
 REACH = 10**9
 NUMBER = rb"(?:0|[1-9][0-9]{0,17})"
-LETTERS = b"FBSCDEGKU"
 
 
 def good_line(line):

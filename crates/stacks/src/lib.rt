@@ -127,23 +127,31 @@ mod tests {
         )
     }
 
-    // Whole rows of 64 numbers, at most 64; the rest of the memory stays, also after a fill.
+    // Whether the numbers from a place on are all 7.
+    fn tail_stays(memory: &Vec<i64>, from: usize) -> bool {
+        for n in memory.iter().skip(from) {
+            if *n != 7 {
+                return false;
+            }
+        }
+        true
+    }
+
+    // Whole rows of 64 numbers, at most 64; the rest of the memory stays, after making and after a fill.
     #[test]
     fn grid_memory(rt: LibcRuntime) -> Result<(), Fail> {
         let heap = rt.alloc();
         for (numbers, accounts) in [(0, 0), (63, 0), (64, 1), (4159, 64), (4200, 64)] {
+            let made = grid_of(heap, numbers)?.into_memory();
+            check(made.len() == numbers && tail_stays(&made, 64 * accounts))?;
             let mut book = grid_of(heap, numbers)?;
             check_eq(book.accounts(), accounts)?;
-            let _ = tell(&mut book, 'F', 0, 9);
+            check_eq(tell(&mut book, 'F', 0, 9).is_ok(), accounts > 0)?;
             let memory = book.into_memory();
-            check_eq(memory.len(), numbers)?;
+            check(memory.len() == numbers && tail_stays(&memory, 64 * accounts))?;
             check_eq(
-                memory.get(0).copied().unwrap_or(7),
+                memory.first().copied().unwrap_or(7),
                 if accounts > 0 { 9 } else { 7 },
-            )?;
-            check_eq(
-                memory.last().copied().unwrap_or(7),
-                if numbers == 64 { 0 } else { 7 },
             )?;
         }
         Ok(())
@@ -176,6 +184,8 @@ mod tests {
         };
         let mut none = EntryBook::new(Vec::new(heap));
         check_eq(tell(&mut none, 'F', 0, 1), Err(Fault::found(Reason::Full)))?;
+        let made = EntryBook::new(vec![in heap; stale; 4097]?).into_memory();
+        check_eq(made.last().copied(), Some(stale))?;
         let mut book = EntryBook::new(vec![in heap; stale; 4097]?);
         check_eq(book.cell(1, 2).held, 0)?;
         tell(&mut book, 'F', 5, -4)?;

@@ -35,14 +35,14 @@ impl EntryBook {
     }
 
     // How many held records lie below a place.
-    pub(super) fn position(&self, place: usize) -> usize
-        ensures { λ r. ⌜ Parts (items (now (self .entry))) (now (self .entry) .live) place r ⌝ }
+    pub(super) fn position(&self, target: usize) -> usize
+        ensures { λ r. ⌜ Parts (items (now (self .entry))) (now (self .entry) .live) target r ⌝ }
     {
         let mut low = 0;
         let mut high = self.live;
         while low < high {
             let middle = low + (high - low) / 2;
-            if self.place_at(middle) < place {
+            if self.place_at(middle) < target {
                 low = middle + 1;
             } else {
                 high = middle;

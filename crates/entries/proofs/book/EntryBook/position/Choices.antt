@@ -7,8 +7,8 @@ abbrev pub Inv-loop-low : given.InvT-loop-low
 Inv-loop-low l =
     (l .low ≤ l .high)
     × (l .high ≤ l .self .live)
-    × ((j : ℕ) → j < l .low → place-of (nth (items (l .self)) j) < l .place)
-    × ((j : ℕ) → l .high ≤ j → j < l .self .live → l .place ≤ place-of (nth (items (l .self)) j))
+    × ((j : ℕ) → j < l .low → place-of (nth (items (l .self)) j) < l .target)
+    × ((j : ℕ) → l .high ≤ j → j < l .self .live → l .target ≤ place-of (nth (items (l .self)) j))
 
 abbrev pub μ-loop-low : given.MeasureT-loop-low
 μ-loop-low l = l .high - l .low
