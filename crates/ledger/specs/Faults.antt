@@ -1,10 +1,12 @@
 -- The published number of each reason, and a refusal as it is counted through the layers. Assumes nothing.
 use Prim.Native.Nat.{ℕ, _+_, min}
 use Rattle.ledger.specs.declared.faults.Reason.{Reason}
-use Rattle.ledger.specs.declared.faults.Reason.the-variants.{Unknown, Amount, NoTaker, Rest, NotACall, Reach, Full, Line}
+use Rattle.ledger.specs.declared.faults.Reason.the-variants.{ClassFull, Strike, Unknown, Amount, NoTaker, Rest, NotACall, Reach, Full, Line}
 use Rattle.ledger.specs.declared.faults.Fault.{Fault}
 
 abbrev pub number : Reason → ℕ
+number ClassFull = 2
+number Strike = 3
 number Unknown = 7
 number Amount = 8
 number NoTaker = 9

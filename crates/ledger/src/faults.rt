@@ -5,6 +5,10 @@ ghost use Rattle.ledger.specs.Faults.{number, found, misfit, deeper};
 
 #[derive(Clone, Copy, PartialEq, Eq, Debug)]
 pub enum Reason {
+    // One strike more than a class has room for.
+    ClassFull,
+    // A strike out of range, or not above the last.
+    Strike,
     // The letter, account or series does not exist here.
     Unknown,
     // The amount is outside its action's range.
@@ -29,6 +33,8 @@ impl Reason {
         ensures { λ r. ⌜ r ≡ number self ⌝ }
     {
         match self {
+            Reason::ClassFull => 2,
+            Reason::Strike => 3,
             Reason::Unknown => 7,
             Reason::Amount => 8,
             Reason::NoTaker => 9,

@@ -1,0 +1,4 @@
+pub mod Near
+pub mod Expiry
+pub mod Quantities
+pub mod Parties

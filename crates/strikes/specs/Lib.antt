@@ -1,0 +1,3 @@
+pub mod Strikes
+pub mod Listed
+pub mod Classes
