@@ -23,6 +23,7 @@ abbrev Rising : List ℕ → Type 0
 Rising [] = Unit {0}
 Rising (K ∷ ks) = (0 < K) × All (λ M. K < M) ks × Rising ks
 
+-- below, at or above a strike in both: the same two tests
 both-below : (p q d K : ℕ) → p < K * q → d < K * 2 → Same p q d K
 both-below p q d K h k = (le-ltb (K * q) p (omega arith) ∙ sym (le-ltb (K * 2) d (omega arith)), lt-ltb p (K * q) h ∙ sym (lt-ltb d (K * 2) k))
 
@@ -41,10 +42,12 @@ above-all p q d K pos-q h k ks a =
 abbrev Found : ℕ → ℕ → ℕ → List ℕ → List ℕ → Type 0
 Found p q K ks ds = (j : ℕ) × (j < length ds) × (2 * K ≤ getD ds j 0) × All (Same p q (getD ds j 0)) (K ∷ ks)
 
+-- a strike below both prices changes nothing
 later : (p q K M : ℕ) (ks : List ℕ) → 0 < q → K < M → K * q < p → Found p q M ks (from-first (M ∷ ks)) → Found p q K (M ∷ ks) (from-first (K ∷ (M ∷ ks)))
 later p q K M ks pos-q l h (j, inside, least, same) =
     (suc (suc j), omega arith, omega arith, (both-above p q (getD (from-first (M ∷ ks)) j 0) K h (omega arith), same))
 
+-- by recursion on the strikes, the first being at most p/q
 from-listed : (p q : ℕ) → 0 < q → (K : ℕ) (ks : List ℕ) → Rising (K ∷ ks) → K * q ≤ p → Found p q K ks (from-first (K ∷ ks))
 from-listed p q pos-q K [] r h =
     ⊎-elim
@@ -84,6 +87,7 @@ agrees p q pos-q (K ∷ ks) r =
     (λ (v : K * q ≤ p). let f = from-listed p q pos-q K ks r v in (suc (f .0), omega arith, f .3))
     (cases-lt p (K * q))
 
+-- rising by index is rising by recursion
 rising-from : (ss : List Strike) → Rises ss (length ss) → AllProper ss (length ss) → Rising (prices ss)
 rising-from [] r h = tt
 rising-from (s ∷ ss) r h = (

@@ -25,12 +25,15 @@ use Rattle.expiry.proofs.Sums.{sum-more, sum-near}
 use Rattle.expiry.proofs.Receipts.{calls-puts-cases}
 use Rattle.expiry.proofs.Levels.{puts-to}
 
+-- within b of 0 with b below 2^63
 pub near-fits : (b : ℕ) (z : ℤ) → b < 2 ^ 63 → Near b z → SFits w64 z
 near-fits b z l h = omega (arith, ints)
 
+-- what fits is read back as it was stored
 pub near-back : (b : ℕ) (z : ℤ) → b < 2 ^ 63 → Near b z → toZ w64 (ofZ w64 z) ≡ z
 near-back b z l h = toZ-ofZ w64 z (near-fits b z l h)
 
+-- by sign, as for natural numbers
 pub near-times : (b m n : ℕ) (z : ℤ) → Near b z → n ≤ m → Near (b * m) (z *ℤ pos n)
 near-times b m n (pos k) h l =
     let u : k ≤ b = omega (arith, ints) in
@@ -39,9 +42,11 @@ near-times b m n (negsuc k) h l =
     let u : suc k ≤ b = omega (arith, ints) in
     (omega (arith, ints, mul-le-mul u l), omega (arith, ints, mul-le-mul u l))
 
+-- the bounds of Near are symmetric
 near-opposite : (b : ℕ) (z : ℤ) → Near b z → Near b (pos 0 -ℤ z)
 near-opposite b z h = (omega (arith, ints), omega (arith, ints))
 
+-- a wider bound
 pub near-less : (a b : ℕ) (z : ℤ) → a ≤ b → Near a z → Near b z
 near-less a b z l h = (omega (arith, ints), omega (arith, ints))
 
@@ -71,6 +76,7 @@ module _ (x r : ℤ) (n : ℕ) (r-is : r ≡ x) (h : Near 64000000000 x) (l : n 
   product-near : Near 640000000000000 (x *ℤ pos n)
   product-near = near-times 64000000000 10000 n x h l
 
+  -- the machine has both factors as they are
   product-same : (toZ w64 (ofZ w64 r) *ℤ toZ w64 n) ≡ (x *ℤ pos n)
   product-same =
       ap (λ a. toZ w64 (ofZ w64 a) *ℤ toZ w64 n) r-is
@@ -86,6 +92,7 @@ module _ (x r : ℤ) (n : ℕ) (r-is : r ≡ x) (h : Near 64000000000 x) (l : n 
   pub product-bound : Near 640000000000000 (toZ w64 (ofZ w64 (toZ w64 (ofZ w64 r) *ℤ toZ w64 n)))
   product-bound = subst (Near 640000000000000) (sym product-value) product-near
 
+-- a difference as a sum with the opposite
 less : (z s u v : ℤ) → z ≡ s → v ≡ u → (z -ℤ v) ≡ (s +ℤ (pos 0 -ℤ u))
 less z s u v e f = omega (arith, ints)
 
@@ -105,24 +112,37 @@ module _ (ss : List Strike) (lawful : Lawful ss) (puts : List Sum) (i : ℕ) (l 
   difference : (z -ℤ toZ w64 (ofZ w64 u)) ≡ puts-to ss (at puts) (i + 1)
   difference = less z _ _ _ z-is u-back ∙ sym (sum-more _ i)
 
+  -- the difference is the sum with one term more, and that is near 0
   pub puts-fits : SFits w64 (z -ℤ toZ w64 (ofZ w64 u))
   puts-fits = subst (SFits w64) (sym difference) (near-fits 20480000000000000 _ (omega arith) near)
 
   pub puts-value : toZ w64 (ofZ w64 (z -ℤ toZ w64 (ofZ w64 u))) ≡ puts-to ss (at puts) (i + 1)
   puts-value = ap (λ a. toZ w64 (ofZ w64 a)) difference ∙ near-back 20480000000000000 _ (omega arith) near
 
--- one receipt from the one before, as the machine adds them
-module _ (r s u b v : ℤ) (r-is : r ≡ (s +ℤ u)) (r-near : Near 20480000000000000 r) (s-near : Near 20480000000000000 s) (u-near : Near 640000000000000 u) (b-is : b ≡ s) (v-is : v ≡ u) where
+-- the receipt r is the one before, s, with the units u of one series; b and v are what the machine adds
+pub record Added (r s u b v : ℤ) : Type 0 where
+  pub sum : r ≡ (s +ℤ u)
+  pub near : Near 20480000000000000 r
+  pub before-near : Near 20480000000000000 s
+  pub units-near : Near 640000000000000 u
+  pub before : b ≡ s
+  pub units : v ≡ u
+
+module _ (r s u b v : ℤ) (h : Added r s u b v) where
+  -- both are near 0, and so is their sum
   added : (toZ w64 (ofZ w64 b) +ℤ toZ w64 (ofZ w64 v)) ≡ r
   added =
-      ap (λ a. toZ w64 (ofZ w64 a) +ℤ toZ w64 (ofZ w64 v)) b-is
-      ∙ ap (λ a. a +ℤ toZ w64 (ofZ w64 v)) (near-back 20480000000000000 s (omega arith) s-near)
-      ∙ ap (λ a. s +ℤ toZ w64 (ofZ w64 a)) v-is
-      ∙ ap (λ a. s +ℤ a) (near-back 640000000000000 u (omega arith) u-near)
-      ∙ sym r-is
+      ap (λ a. toZ w64 (ofZ w64 a) +ℤ toZ w64 (ofZ w64 v)) (h .before)
+      ∙ ap (λ a. a +ℤ toZ w64 (ofZ w64 v)) (near-back 20480000000000000 s (omega arith) (h .before-near))
+      ∙ ap (λ a. s +ℤ toZ w64 (ofZ w64 a)) (h .units)
+      ∙ ap (λ a. s +ℤ a) (near-back 640000000000000 u (omega arith) (h .units-near))
+      ∙ sym (h .sum)
 
   pub added-fits : SFits w64 (toZ w64 (ofZ w64 b) +ℤ toZ w64 (ofZ w64 v))
-  added-fits = subst (SFits w64) (sym added) (near-fits 20480000000000000 r (omega arith) r-near)
+  added-fits = subst (SFits w64) (sym added) (near-fits 20480000000000000 r (omega arith) (h .near))
 
   pub added-value : toZ w64 (ofZ w64 (toZ w64 (ofZ w64 b) +ℤ toZ w64 (ofZ w64 v))) ≡ r
-  added-value = ap (λ a. toZ w64 (ofZ w64 a)) added ∙ near-back 20480000000000000 r (omega arith) r-near
+  added-value = ap (λ a. toZ w64 (ofZ w64 a)) added ∙ near-back 20480000000000000 r (omega arith) (h .near)
+
+  pub added-bound : Near 20480000000000000 (toZ w64 (ofZ w64 (toZ w64 (ofZ w64 b) +ℤ toZ w64 (ofZ w64 v))))
+  added-bound = subst (Near 20480000000000000) (sym added-value) (h .near)

@@ -21,6 +21,7 @@ use Rattle.greatest.specs.Greatest.{Stands}
 use Rattle.expiry.specs.Quantities.{Greatest, MetFirst, most}
 use Rattle.expiry.proofs.Sums.{≤ℤ-both}
 
+-- the order of whole numbers, read from what `cmp` answers
 ranked-false : (x y : ℤ) (o : Ordering) → Ranked o (x <ℤ y) (x ≡ y) (y <ℤ x) → isLt o ≡ false → y ≤ℤ x
 ranked-false x y Less h e = absurd (true≢false e)
 ranked-false x y Equal h e = omega (arith, ints)
@@ -57,10 +58,12 @@ most-bound [] k l = absurd (omega arith)
 most-bound (x ∷ xs) zero l = omega (arith, ints, clamps)
 most-bound (x ∷ xs) (suc k) l = let h = most-bound xs k (omega arith) in omega (arith, ints, clamps)
 
+-- it starts from 0
 pub most-zero : (xs : List ℤ) → pos 0 ≤ℤ most xs
 most-zero [] = ≤ℤ-refl (pos 0)
 most-zero (x ∷ xs) = let h = most-zero xs in omega (arith, ints, clamps)
 
+-- each step takes one of the two
 pub most-under : (xs : List ℤ) (v : ℤ) → pos 0 ≤ℤ v → ((k : ℕ) → k < length xs → getD xs k (pos 0) ≤ℤ v) → most xs ≤ℤ v
 most-under [] v z h = z
 most-under (x ∷ xs) v z h = let t = most-under xs v z (λ k l. h (suc k) (omega arith)) in let f = h 0 (omega arith) in omega (arith, ints, clamps)

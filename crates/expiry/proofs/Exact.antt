@@ -97,6 +97,7 @@ module _ (ss : List Strike) where
     abbrev extremes : Side → ℕ → ℕ → ℤ
     extremes side a = extreme side (party .low a) (party .high a)
 
+    -- low and high are themselves in the range
     extremes-possible : (side : Side) → Possible ss party (extremes side)
     extremes-possible Long a s l k = (
       calls-puts-cases (party .high a) (party .low a) (λ z. party .low a s ≤ℤ z) s (of .ranged a s l k) (≤ℤ-refl (party .low a s)),
@@ -107,6 +108,7 @@ module _ (ss : List Strike) where
       calls-puts-cases (party .low a) (party .high a) (λ z. z ≤ℤ party .high a s) s (of .ranged a s l k) (≤ℤ-refl (party .high a s)),
     )
 
+    -- calls and puts are summed apart
     mixed : (t : Bool) (x y : ℕ → ℕ → ℤ) (m s : ℕ) → sum-to (λ a. cond t (x a s) (y a s)) m ≡ cond t (summed m x s) (summed m y s)
     mixed true x y m s = refl
     mixed false x y m s = refl
@@ -116,11 +118,13 @@ module _ (ss : List Strike) where
     extremes-summed Long s l = mixed (eqb (s % 2) 0) (party .high) (party .low) (party .accounts) s ∙ ap (λ z. cond (eqb (s % 2) 0) z (summed (party .accounts) (party .low) s)) (of .highs s l) ∙ ap (λ z. cond (eqb (s % 2) 0) (high s) z) (of .lows s l)
     extremes-summed Short s l = mixed (eqb (s % 2) 0) (party .low) (party .high) (party .accounts) s ∙ ap (λ z. cond (eqb (s % 2) 0) z (summed (party .accounts) (party .high) s)) (of .lows s l) ∙ ap (λ z. cond (eqb (s % 2) 0) (low s) z) (of .highs s l)
 
+    -- the summed counts are a count of the summed ranges
     covers : (side : Side) → Lawful ss → Covers side ss party (quantity side ss low high)
     covers side lawful p q pos-q x possible =
         subst (λ z. flow side z ≤ℤ quantity side ss low high) (receipt-summed ss p q x (party .accounts))
         (quantity-covers side low high lawful p q pos-q (summed (party .accounts) x) (possible-inside x possible))
 
+    -- at the place of the greatest, by the counts that the side looks at
     met : (side : Side) (v : ℤ) (o : Option ℕ) → Greatest (flows side ss (extreme side low high)) v o → Met side ss party v o
     met side v None g = g .0
     met side v (Some place) g =
@@ -135,6 +139,7 @@ module _ (ss : List Strike) where
               ∙ g .meets;
         }
 
+    -- both together
     pub exact : (side : Side) (q : Quantity) → Lawful ss → Greatest (flows side ss (extreme side low high)) (q .value) (q .place) → Exact side ss party q
     exact side q lawful g = record {
       covers = subst (Covers side ss party) (sym (greatest-most (flows side ss (extreme side low high)) (q .value) (q .place) g)) (covers side lawful);

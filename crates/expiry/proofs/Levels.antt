@@ -28,6 +28,7 @@ record Splits (ss : List Strike) (a b d : ℕ) : Type 0 where
 abbrev level : List Strike → (ℕ → ℤ) → ℕ → ℕ → ℤ
 level ss c a b = sum-to (λ k. moved (ltb k a) (c (2 * k)) (strike-at ss k .size) -ℤ moved (leb b k) (c (2 * k + 1)) (strike-at ss k .size)) (length ss)
 
+-- the receipt counts exactly the exercised series
 splits-level : (ss : List Strike) (c : ℕ → ℤ) (a b d : ℕ) → Splits ss a b d → receipt ss c d 2 ≡ level ss c a b
 splits-level ss c a b d s =
     sum-same _ _ (length ss)
@@ -48,12 +49,14 @@ module _ (ss : List Strike) (lawful : Lawful ss) where
   by-order : (P : ℕ → Type 0) (i : ℕ) → (k : ℕ) → (k < i → P k) → P i → (i < k → P k) → P k
   by-order P i k before here after = ⊎-elim (λ (e : k ≡ i). subst P (sym e) here) (⊎-elim before after) (cases-order k i)
 
+  -- every price is above 0
   splits-zero : Splits ss 0 0 0
   splits-zero = record {
     calls = λ k h. le-ltb _ _ (omega arith) ∙ sym (le-ltb k 0 (omega arith));
     puts = λ k h. let p = lawful .proper k h .0 in lt-ltb _ _ (omega arith) ∙ sym (le-leb 0 k (omega arith));
   }
 
+  -- the prices rise
   splits-at : (i : ℕ) → i < length ss → Splits ss i (i + 1) (2 * strike-at ss i .price)
   splits-at i l = record {
     calls = λ k h. by-order (λ k. call-exercised (strike-at ss k .price) (2 * strike-at ss i .price) 2 ≡ ltb k i) i k
@@ -79,6 +82,7 @@ module _ (ss : List Strike) (lawful : Lawful ss) where
         (λ m. let s = below k h m in lt-ltb _ _ (omega arith) ∙ sym (le-leb (i + 1) k (omega arith)));
   }
 
+  -- the listed price between two strikes, or above the last
   splits-even : (i : ℕ) → i < length ss → Splits ss (i + 1) (i + 1) (price-at ss (2 * i + 2))
   splits-even i l =
       ⊎-elim
@@ -93,6 +97,7 @@ module _ (ss : List Strike) (lawful : Lawful ss) where
       (cases-lt (i + 1) (length ss))
 
   module _ (c : ℕ → ℤ) where
+    -- the odd places are the strikes, the even ones lie after them
     odd-level : (i : ℕ) → i < length ss → receipt ss c (price-at ss (2 * i + 1)) 2 ≡ level ss c i (i + 1)
     odd-level i l = splits-level ss c i (i + 1) _ (subst (Splits ss i (i + 1)) (sym (listed-strike ss (2 * i + 1) i l refl)) (splits-at i l))
 
@@ -165,5 +170,6 @@ module _ (ss : List Strike) (lawful : Lawful ss) where
         ∙ ap (λ z. receipt-of ss calls puts (2 * i + 1) +ℤ (z *ℤ pos (strike-at ss i .size))) (calls-at (at calls) (at puts) i)
         ∙ ap (λ n. receipt-of ss calls puts n +ℤ (at calls (2 * i) *ℤ pos (strike-at ss i .size))) f
 
+  -- whatever the calls
   pub receipt-zero : (calls y : ℕ → ℤ) → receipt ss (calls-puts calls y) 0 2 ≡ puts-to ss y (length ss)
   receipt-zero calls y = all-puts (calls-puts calls y) ∙ sum-same _ _ (length ss) (λ k l. ap (λ z. pos 0 -ℤ (z *ℤ pos (strike-at ss k .size))) (puts-at calls y k))

@@ -23,9 +23,11 @@ calls-at x y i = rw (eq-eqb ((2 * i) % 2) 0 (omega arith))
 pub puts-at : (x y : ℕ → ℤ) (i : ℕ) → calls-puts x y (2 * i + 1) ≡ y (2 * i + 1)
 puts-at x y i = rw (ne-eqb ((2 * i + 1) % 2) 0 (omega arith))
 
+-- one of the two
 pub calls-puts-cases : (x y : ℕ → ℤ) (P : ℤ → Type 0) (s : ℕ) → P (x s) → P (y s) → P (calls-puts x y s)
 calls-puts-cases x y P s h k = elim (eqb (s % 2) 0) as (λ t. P (cond t (x s) (y s))) [ true ↦ h | false ↦ k ]
 
+-- a size is not below 0
 moved-le : (t : Bool) (a b : ℤ) (n : ℕ) → a ≤ℤ b → moved t a n ≤ℤ moved t b n
 moved-le true a b n h = times-le a b n h
 moved-le false a b n h = ≤ℤ-refl (pos 0)
@@ -37,6 +39,7 @@ minus-le a b x y h k = omega (arith, ints)
 abbrev pub Favours : List Strike → (ℕ → ℤ) → (ℕ → ℤ) → Type 0
 Favours ss c d = (i : ℕ) → i < length ss → (c (2 * i) ≤ℤ d (2 * i)) × (d (2 * i + 1) ≤ℤ c (2 * i + 1))
 
+-- strike by strike
 pub receipt-le : (ss : List Strike) (c d : ℕ → ℤ) (p q : ℕ) → Favours ss c d → receipt ss c p q ≤ℤ receipt ss d p q
 receipt-le ss c d p q h =
     sum-le _ _ (length ss)
@@ -56,6 +59,7 @@ receipt-same ss c p q d same =
 pub receipt-alike : (ss : List Strike) (c d : ℕ → ℤ) (p q : ℕ) → ((s : ℕ) → s < 2 * length ss → c s ≡ d s) → receipt ss c p q ≡ receipt ss d p q
 receipt-alike ss c d p q h = sum-same _ _ (length ss) (λ i l. let e = h (2 * i) (omega arith) in let f = h (2 * i + 1) (omega arith) in cc)
 
+-- by whether each is exercised
 split : (t u : Bool) (a a′ b b′ : ℤ) → (cond t (a +ℤ a′) (pos 0) -ℤ cond u (b +ℤ b′) (pos 0)) ≡ ((cond t a (pos 0) -ℤ cond u b (pos 0)) +ℤ (cond t a′ (pos 0) -ℤ cond u b′ (pos 0)))
 split true true a a′ b b′ = omega (arith, ints)
 split true false a a′ b b′ = omega (arith, ints)
@@ -72,9 +76,11 @@ nothing false true n = omega (arith, ints)
 nothing false false n = refl
 
 module _ (ss : List Strike) (p q : ℕ) where
+  -- strike by strike
   receipt-add : (c d : ℕ → ℤ) → receipt ss (λ s. c s +ℤ d s) p q ≡ (receipt ss c p q +ℤ receipt ss d p q)
   receipt-add c d = sum-same _ _ (length ss) (λ i l. through-add (strike-at ss i) (c (2 * i)) (d (2 * i)) (c (2 * i + 1)) (d (2 * i + 1)) p q) ∙ sum-add _ _ (length ss)
 
+  -- 0 of everything moves nothing
   receipt-none : receipt ss (λ _. pos 0) p q ≡ pos 0
   receipt-none = sum-same _ (λ _. pos 0) (length ss) (λ i l. nothing (call-exercised (strike-at ss i .price) p q) (put-exercised (strike-at ss i .price) p q) (strike-at ss i .size)) ∙ sum-zero (length ss)
 

@@ -13,6 +13,7 @@ use Rattle.std.proofs.shelf.Tests.{cases-order}
 use Rattle.expiry.specs.Near.{Near}
 use Rattle.expiry.specs.Expiry.{sum-to}
 
+-- orders of whole numbers
 pub ≤ℤ-chain : (a b c : ℤ) → a ≤ℤ b → b ≤ℤ c → a ≤ℤ c
 ≤ℤ-chain a b c h k = omega (arith, ints)
 
@@ -33,6 +34,7 @@ times-add x y n =
     let h : (up (x +ℤ y) + down x + down y) * n ≡ (down (x +ℤ y) + up x + up y) * n = ap (λ k. k * n) (sum-is x y) in
     omega (arith, ints, h, add-mul (up (x +ℤ y) + down x) (down y) n, add-mul (up (x +ℤ y)) (down x) n, add-mul (down (x +ℤ y) + up x) (up y) n, add-mul (down (x +ℤ y)) (up x) n)
 
+-- one term more, as a loop counts
 pub sum-more : (f : ℕ → ℤ) (i : ℕ) → sum-to f (i + 1) ≡ (sum-to f i +ℤ f i)
 sum-more f i = rw (add-one i)
 
@@ -53,6 +55,7 @@ pub sum-zero : (n : ℕ) → sum-to (λ _. pos 0) n ≡ pos 0
 sum-zero zero = refl
 sum-zero (suc n) = omega (arith, ints, sum-zero n)
 
+-- n terms within b of 0 each
 pub sum-near : (b : ℕ) (f : ℕ → ℤ) (n : ℕ) → ((i : ℕ) → i < n → Near b (f i)) → Near (n * b) (sum-to f n)
 sum-near b f zero h = (omega (arith, ints), omega (arith, ints))
 sum-near b f (suc n) h =

@@ -23,9 +23,9 @@ fn units(count: Sum, size: u64) -> i64
 }
 
 // The receipt at price 0: every put is exercised and no call, whatever the calls.
-fn receipt_at_zero(strikes: &[Strike], puts: [Sum; 64]) -> i64
+fn receipt_at_zero(strikes: &[Strike], puts: &[Sum; 64]) -> i64
     requires { ⌜ Lawful (now strikes) ⌝ }
-    ensures { λ r. ⌜ ((calls : ℕ → ℤ) → r ≡ receipt (now (strikes .entry)) (calls-puts calls (at puts)) 0 2) ⌝ }
+    ensures { λ r. ⌜ ((calls : ℕ → ℤ) → r ≡ receipt (now (strikes .entry)) (calls-puts calls (at (now (puts .entry)))) 0 2) ⌝ }
 {
     let mut receipt = 0;
     for i in 0..strikes.len() {
@@ -38,15 +38,15 @@ fn receipt_at_zero(strikes: &[Strike], puts: [Sum; 64]) -> i64
 // the call of that strike comes in.
 fn next_receipt(
     strikes: &[Strike],
-    calls: [Sum; 64],
-    puts: [Sum; 64],
+    calls: &[Sum; 64],
+    puts: &[Sum; 64],
     place: usize,
     before: i64,
 ) -> i64
     requires lawful { ⌜ Lawful (now strikes) ⌝ }
     requires within { ⌜ place ≤ 2 * length (now strikes) ⌝ }
-    requires before { ⌜ before ≡ receipt (now strikes) (calls-puts (at calls) (at puts)) (price-at (now strikes) (place - 1)) 2 ⌝ }
-    ensures value { λ r. ⌜ r ≡ receipt (now (strikes .entry)) (calls-puts (at calls) (at puts)) (price-at (now (strikes .entry)) place) 2 ⌝ }
+    requires before { ⌜ before ≡ receipt (now strikes) (calls-puts (at (now calls)) (at (now puts))) (price-at (now strikes) (place - 1)) 2 ⌝ }
+    ensures value { λ r. ⌜ r ≡ receipt (now (strikes .entry)) (calls-puts (at (now (calls .entry))) (at (now (puts .entry)))) (price-at (now (strikes .entry)) place) 2 ⌝ }
     ensures bound { λ r. ⌜ Near 20480000000000000 r ⌝ }
 {
     if place == 0 {
@@ -72,9 +72,9 @@ fn turned(side: Side, received: i64) -> i64
 }
 
 // The flows at the listed prices, in the first 2n + 1 places of the list.
-fn list_flows(side: Side, strikes: &[Strike], calls: [Sum; 64], puts: [Sum; 64]) -> [i64; 65]
+fn list_flows(side: Side, strikes: &[Strike], calls: &[Sum; 64], puts: &[Sum; 64]) -> [i64; 65]
     requires { ⌜ Lawful (now strikes) ⌝ }
-    ensures { λ r. ⌜ take (2 * length (now (strikes .entry)) + 1) r ≡ flows side (now (strikes .entry)) (calls-puts (at calls) (at puts)) ⌝ }
+    ensures { λ r. ⌜ take (2 * length (now (strikes .entry)) + 1) r ≡ flows side (now (strikes .entry)) (calls-puts (at (now (calls .entry))) (at (now (puts .entry)))) ⌝ }
 {
     let mut list = [0; 65];
     let mut receipt = receipt_at_zero(strikes, puts);
@@ -113,11 +113,11 @@ fn greatest_of(list: &[i64]) -> Quantity
 pub(crate) fn greatest_flow(
     side: Side,
     strikes: &[Strike],
-    calls: [Sum; 64],
-    puts: [Sum; 64],
+    calls: &[Sum; 64],
+    puts: &[Sum; 64],
 ) -> Quantity
     requires { ⌜ Lawful (now strikes) ⌝ }
-    ensures { λ r. ⌜ Greatest (flows side (now (strikes .entry)) (calls-puts (at calls) (at puts))) (r .value) (r .place) ⌝ }
+    ensures { λ r. ⌜ Greatest (flows side (now (strikes .entry)) (calls-puts (at (now (calls .entry))) (at (now (puts .entry))))) (r .value) (r .place) ⌝ }
 {
     let list = list_flows(side, strikes, calls, puts);
     greatest_of(&list[0..2 * strikes.len() + 1])

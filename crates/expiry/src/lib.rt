@@ -26,8 +26,8 @@ pub fn quantities(class: &Class, low: [Sum; 64], high: [Sum; 64]) -> Quantities
     ensures monotone { λ r. ⌜ Monotone (strikes-of (now (class .entry))) (at low) (at high) r ⌝ }
 {
     let strikes = class.strikes();
-    let long = greatest_flow(Side::Long, strikes, high, low);
-    let short = greatest_flow(Side::Short, strikes, low, high);
+    let long = greatest_flow(Side::Long, strikes, &high, &low);
+    let short = greatest_flow(Side::Short, strikes, &low, &high);
     Quantities { long, short }
 }
 

@@ -14,6 +14,7 @@ use Rattle.strikes.specs.Classes.{highest, comes-next}
 use Rattle.strikes.specs.Strikes.{no-strike, strike-at, Proper, AllProper, Rises, Lawful}
 
 module _ (ss : List Strike) (n : ℕ) (s : Strike) (room : n < length ss) where
+  -- a write changes one strike
   new-at : strike-at (set ss n s) n ≡ s
   new-at = rw getD-set-same
 

@@ -47,6 +47,7 @@ past-last (K ∷ []) (suc i) l = absurd (omega arith)
 past-last (K ∷ (M ∷ ks)) zero l = absurd (omega arith)
 past-last (K ∷ (M ∷ ks)) (suc i) l = two-on-one (from-first (M ∷ ks)) (2 * K) (K + M) i _ (past-last (M ∷ ks) i (omega arith))
 
+-- the price of a strike, in the list of prices
 price-at : (ss : List Strike) (i : ℕ) → i < length ss → getD (prices ss) i 0 ≡ strike-at ss i .price
 price-at ss i l = getD-map (λ s. s .price) ss i no-strike 0 l
 

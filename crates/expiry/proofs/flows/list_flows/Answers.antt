@@ -19,7 +19,7 @@ use Rattle.expiry.proofs.flows.list_flows.Needs as need
 pub loop-place-holds : need.loop-place-holds
 loop-place-holds c = (
   refl,
-  ap (λ z. toZ w64 (ofZ w64 z)) (c .receipt-at-zero-receipt .ensures (at (c .args .calls))) ∙ near-back 20480000000000000 _ (omega arith) (receipt-near (c .args .strikes .now) (c .args .calls) (c .args .puts) 0 2 (c .pre)),
+  ap (λ z. toZ w64 (ofZ w64 z)) (c .receipt-at-zero-receipt .ensures (at (c .args .calls .now))) ∙ near-back 20480000000000000 _ (omega arith) (receipt-near (c .args .strikes .now) (c .args .calls .now) (c .args .puts .now) 0 2 (c .pre)),
   λ k l. absurd (omega arith),
 )
 
@@ -32,8 +32,8 @@ turned-requires c κs = subst (Near 20480000000000000) (sym (near-back 204800000
 pub loop-place-again : need.loop-place-again
 loop-place-again c =
     let ss = c .args .strikes .now in
-    let calls = c .args .calls in
-    let puts = c .args .puts in
+    let calls = c .args .calls .now in
+    let puts = c .args .puts .now in
     let place = c .loop-place .place in
     let on : place ≡ place + 1 - 1 = omega arith in
     let receipt : toZ w64 (ofZ w64 (c .next-receipt-receipt .result)) ≡ receipt-of ss calls puts place
@@ -49,6 +49,6 @@ loop-place-again c =
 
 pub returns : need.returns
 returns c =
-    flows-filled (c .args .side) (c .args .strikes .now) (calls-puts (at (c .args .calls)) (at (c .args .puts))) (c .loop-place .list)
+    flows-filled (c .args .side) (c .args .strikes .now) (calls-puts (at (c .args .calls .now)) (at (c .args .puts .now))) (c .loop-place .list)
     (omega (arith, c .pre .few, c .loop-place .inv .0))
     (λ k l. c .loop-place .inv .2 k (omega (arith, c .loop-place-test .left)))
