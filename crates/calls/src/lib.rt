@@ -1,4 +1,5 @@
 // What a limiter is asked, and what it replies.
+#![tactic(auto)]
 use expiry::quantity::Quantities;
 use expiry::side::Side;
 use greatest::headrooms::Headroom;

@@ -1,3 +1,4 @@
 // The entry book: one record for each held cell.
+#![tactic(auto)]
 pub mod book;
 pub mod records;

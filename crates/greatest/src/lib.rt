@@ -1,4 +1,5 @@
 // The first greatest entry of a list, for any kind of entry whose order is total.
+#![tactic(auto)]
 ghost use Rattle.std.specs.Prelude.{◌≡◌, ℕ, ◌<◌, length, MatchOption};
 ghost use Rattle.std.specs.Cmp.{IsTotalOrder, opposite};
 ghost use Rattle.greatest.specs.Greatest.{above, FirstGreatest};

@@ -9,7 +9,7 @@ use crate::ledgers::Ledger;
 
 // A cell below, in its range.
 pub fn read_below<L: Ledger>(below: &L, account: usize, series: usize) -> Cell
-    ensures value { result ≡ (meaning below.now).cell account series }
+    ensures value { result ≡ (L.Ledger.meaning below.now).cell account series }
     ensures ranged { Ranged (standing result) }
 {
     below.cell(account, series)
@@ -22,7 +22,7 @@ pub fn ask_below<L: Ledger>(
     series: usize,
     down: Option<Instruction>,
 ) -> Result<Quote, Fault>
-    ensures answer { result ≡ asked (meaning below.now) account series down }
+    ensures answer { result ≡ asked (L.Ledger.meaning below.now) account series down }
     ensures ranged { IfOk result (λ q. Ranged q) }
 {
     match down {
@@ -43,8 +43,8 @@ pub fn ask_below<L: Ledger>(
 
 // Carries out what is sent below, if anything is.
 pub fn send_below<L: Ledger>(below: &mut L, down: Option<Instruction>)
-    ensures passed { Passed meaning below.old below.new down }
-    ensures kept { keeps below.old below.new }
+    ensures passed { Passed L.Ledger.meaning below.old below.new down }
+    ensures kept { L.Ledger.keeps below.old below.new }
 {
     if let Some(j) = down {
         let _ = below.instruct(j);

@@ -1,5 +1,7 @@
 // Positions in the options of one class, cell by cell: instructions, quotes, refusals, and the interface that every
 // book and layer carries.
+#![tactic(auto)]
+
 pub mod actions;
 pub mod books;
 pub mod cells;

@@ -1,4 +1,5 @@
 // Limits on what each party might take or hand over at expiry, over any ledger.
+#![tactic(auto)]
 mod asking;
 mod calling;
 mod change;

@@ -1,4 +1,5 @@
 // The order layer: buys and sells that rest above any ledger.
+#![tactic(auto)]
 ghost use Rattle.std.specs.Prelude.{◌≡◌, IfOk, IfErr};
 ghost use Rattle.tables.specs.Tables.{AllZero};
 ghost use Rattle.orders.specs.Resting.{order_meaning, Plain, Resting};

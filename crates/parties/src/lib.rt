@@ -1,4 +1,5 @@
 // Who stands behind an account, and the limit of each party.
+#![tactic(auto)]
 ghost use Rattle.std.specs.Prelude.{◌≡◌, ℕ, ◌≤◌, length};
 ghost use Rattle.parties.specs.Tables.{AllNumbered, AllProper};
 

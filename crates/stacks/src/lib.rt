@@ -1,4 +1,5 @@
 // Tests over stacks of books and layers.
+#![tactic(auto)]
 
 #[cfg(test)]
 mod tests {

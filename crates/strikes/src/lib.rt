@@ -1,4 +1,5 @@
 // The strikes of a class of options, and the prices that they list.
+#![tactic(auto)]
 ghost use Rattle.std.specs.Prelude.{◌≡◌, ℕ, ◌≤◌, length};
 ghost use Rattle.strikes.specs.Strikes.{AllProper, Rises};
 

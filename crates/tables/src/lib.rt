@@ -1,4 +1,5 @@
 // Signed numbers by account and series.
+#![tactic(auto)]
 ghost use Rattle.std.specs.Prelude.{◌≡◌, ℕ, IfOk, Decides};
 ghost use Rattle.tables.specs.Tables.{at, rows_of, items, AllZero, Cleared, Wrote};
 
