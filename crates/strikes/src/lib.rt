@@ -1,5 +1,6 @@
 // The strikes of a class of options, and the prices that they list.
 #![tactic(auto)]
+
 ghost use Rattle.std.specs.Prelude.{◌≡◌, ℕ, ◌≤◌, length};
 ghost use Rattle.strikes.specs.Strikes.{AllProper, Rises};
 

@@ -1,5 +1,6 @@
 // Signed numbers by account and series.
 #![tactic(auto)]
+
 ghost use Rattle.std.specs.Prelude.{◌≡◌, ℕ, IfOk, Decides};
 ghost use Rattle.tables.specs.Tables.{at, rows_of, items, AllZero, Cleared, Wrote};
 

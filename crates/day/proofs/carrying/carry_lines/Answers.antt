@@ -9,7 +9,7 @@ pub loop-line-init : goal.loop-line-init
 loop-line-init g c =
     let R = Serves g.L.Ledger.meaning g.L.Ledger.keeps in
     let x = c.args.ledger.now in
-    let made = c.in-ok-answers.ensures in
+    let made = c.in_ok-answers.ensures in
     (made.len, made.capacity, subst (λ rs. Run R x [] (map buffer rs) x) (sym made.items) refl)
 
 pub loop-line-preserved : goal.loop-line-preserved

@@ -13,7 +13,7 @@ loop-from-preserved c =
     let from = c.loop-from.from in
     let lines = map (λ x. x.now) (vec_items c.loop-from.lines) in
     let more = cutting_more text from c.line-end-end.result lines c.loop-from.invariant c.loop-from-test.true end.within.0 end.within.1 end.none end.ends in
-    subst (Cutting text _) (sym (ap (map (λ x. x.now)) c.in-ok-push.ensures.items ∙ map_push (λ x. x.now) (vec_items c.loop-from.lines) _)) more
+    subst (Cutting text _) (sym (ap (map (λ x. x.now)) c.in_ok-push.ensures.items ∙ map_push (λ x. x.now) (vec_items c.loop-from.lines) _)) more
 
 pub returns : goal.returns
 returns c = cutting_all c.args.text.now c.loop-from.from _ c.loop-from.invariant c.loop-from-test.false

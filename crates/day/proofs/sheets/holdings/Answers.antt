@@ -12,7 +12,7 @@ loop-h-preserved g c =
     let cell = (g.B.Ledger.meaning c.args.book.now).cell in
     let hs = vec_items c.loop-h.all in
     let more = before_more cell c.loop-h.from hs c.loop-h.invariant c.in-Some.h c.in-Some.ensures.first in
-    subst (Before cell _) (sym c.in-ok-push.ensures.items) more
+    subst (Before cell _) (sym c.in_ok-push.ensures.items) more
 
 pub returns : goal.returns
 returns g c =

@@ -58,14 +58,14 @@ even c =
       units = c.units-else-place-eq1.ensures.value ∙ ap (λ (x : Sum). x.value *ℤ pos (strike_at ss i).size) (get_or_default calls (2 * i) _ no_sum within);
     }
 
-pub overflow-add-result : goal.overflow-add-result
-overflow-add-result c = added_fits _ _ _ _ _ (odd c)
+pub overflow_add-result : goal.overflow_add-result
+overflow_add-result c = added_fits _ _ _ _ _ (odd c)
 
 pub returns-then-place-eq1 : goal.returns-then-place-eq1
 returns-then-place-eq1 c = record { value = added_value _ _ _ _ _ (odd c); bound = added_bound _ _ _ _ _ (odd c) }
 
-pub overflow-add-result-else-place-eq1 : goal.overflow-add-result-else-place-eq1
-overflow-add-result-else-place-eq1 c = added_fits _ _ _ _ _ (even c)
+pub overflow_add-result-else-place-eq1 : goal.overflow_add-result-else-place-eq1
+overflow_add-result-else-place-eq1 c = added_fits _ _ _ _ _ (even c)
 
 pub returns-else-place-eq1 : goal.returns-else-place-eq1
 returns-else-place-eq1 c = record { value = added_value _ _ _ _ _ (even c); bound = added_bound _ _ _ _ _ (even c) }

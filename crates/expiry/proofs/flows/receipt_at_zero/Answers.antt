@@ -14,8 +14,8 @@ put c =
     let within : k < length c.args.puts.now = search rules in
     c.units-receipt.ensures.value ∙ ap (λ (x : Sum). x.value *ℤ pos (strike_at c.args.strikes.now c.loop-i.i).size) (get_or_default c.args.puts.now k _ no_sum within)
 
-pub overflow-sub-receipt : goal.overflow-sub-receipt
-overflow-sub-receipt c = puts_fits c.args.strikes.now c.requires c.args.puts.now c.loop-i.i c.loop-i-test.true _ _ c.loop-i.invariant (put c)
+pub overflow_sub-receipt : goal.overflow_sub-receipt
+overflow_sub-receipt c = puts_fits c.args.strikes.now c.requires c.args.puts.now c.loop-i.i c.loop-i-test.true _ _ c.loop-i.invariant (put c)
 
 pub loop-i-preserved : goal.loop-i-preserved
 loop-i-preserved c = puts_value c.args.strikes.now c.requires c.args.puts.now c.loop-i.i c.loop-i-test.true _ _ c.loop-i.invariant (put c)

@@ -13,12 +13,12 @@ returns g c =
     let x = c.args.self.now.below in
     let y = c.instruct.new.self in
     let below = c.instruct.ensures.carried in
-    let k = span_ok (meaning x) i c.in-ok-quote.quote (sym c.in-ok-quote.ensures) in
+    let k = span_ok (meaning x) i c.in_ok-quote.quote (sym c.in_ok-quote.ensures) in
     let o = subst (Left meaning x y i) (below.answer ∙ k.answers) below.left in
     let was = span_cell ((meaning x).cell i.account i.series) in
     record {
       carried = record {
-        answer = c.in-ok-quote.ensures;
+        answer = c.in_ok-quote.ensures;
         left = record {
           here = ap span_cell o.here ∙ ap (λ (q : Quote). after was i q) (sym k.is);
           elsewhere = λ a s ne. ap span_cell (o.elsewhere a s ne);

@@ -8,19 +8,19 @@ use Rattle.grid.specs.Grids.{grid_capacity}
 use Rattle.tables.proofs.Writes.{wrote_all, wrote_fits}
 use Rattle.grid.proofs.GridBookLedger.instruct.Goals as goal
 
-pub invariant-of-self : goal.invariant-of-self
-invariant-of-self c =
+pub invariant_of-self : goal.invariant_of-self
+invariant_of-self c =
     let t = c.args.self.now.held in
-    let q = c.in-ok-quote.quote in
-    let f = book_ok (rows_of t) (grid_capacity t) (at t) c.args.i q (sym c.in-ok-quote.ensures) in
+    let q = c.in_ok-quote.quote in
+    let f = book_ok (rows_of t) (grid_capacity t) (at t) c.args.i q (sym c.in_ok-quote.ensures) in
     let s : SFits w64 q.held = search rules in
     (wrote_all Within _ _ _ _ _ (wrote_fits q.held s c.put.ensures) f.checks.series f.checks.account (subst (λ (r : Quote). Within r.held) (sym f.is) f.reach) c.args.self.now.near, tt)
 
 pub returns : goal.returns
 returns c =
-    let e = c.in-ok-quote.ensures in
+    let e = c.in_ok-quote.ensures in
     let t = c.args.self.now.held in
-    let q = c.in-ok-quote.quote in
+    let q = c.in_ok-quote.quote in
     let s : SFits w64 q.held = search rules in
     let w = wrote_fits q.held s c.put.ensures in
     let f = book_ok (rows_of t) (grid_capacity t) (at t) c.args.i q (sym e) in

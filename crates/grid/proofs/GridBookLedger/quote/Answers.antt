@@ -14,7 +14,7 @@ pub returns : goal.returns
 returns c =
     let i = c.args.i in
     let t = c.args.self.now.held in
-    let k = c.in-ok-check.ensures in
+    let k = c.in_ok-check.ensures in
     let near = c.args.self.now.near i.account i.series in
     let f : SFits w64 c.at.result = search rules in
     let g : SFits w64 i.amount = search rules in
@@ -23,7 +23,7 @@ returns c =
     let w : true ≡ within (c.at.result +ℤ i.amount) = simp to_z-of_z at c.if-not-is-within.ensures in
     let taken = c.rows.ensures in
     let yes =
-    book_yes (rows_of t) (grid_capacity t) (at t) i c.in-ok-check.field-0
+    book_yes (rows_of t) (grid_capacity t) (at t) i c.in_ok-check.field-0
     (ap (λ n. checked n i) (sym taken) ∙ sym k.answer)
     (sym c.if-not-is-fill.ensures)
     (ap (λ z. within (z +ℤ i.amount)) (sym e) ∙ sym w)

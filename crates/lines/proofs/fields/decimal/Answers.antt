@@ -5,14 +5,14 @@ use Rattle.lines.specs.Fields.{value}
 use Rattle.lines.proofs.Digits.{digit_at, ten_more, ten_bound}
 use Rattle.lines.proofs.fields.decimal.Goals as goal
 
-pub overflow-mul-n : goal.overflow-mul-n
-overflow-mul-n c = omega (arith, ten_bound _ _ c.loop-b.invariant.1 (omega arith))
+pub overflow_mul-n : goal.overflow_mul-n
+overflow_mul-n c = omega (arith, ten_bound _ _ c.loop-b.invariant.1 (omega arith))
 
-pub overflow-sub-b : goal.overflow-sub-b
-overflow-sub-b c = (digit_at _ _ c.loop-b-test.true c.requires.digits).0
+pub overflow_sub-b : goal.overflow_sub-b
+overflow_sub-b c = (digit_at _ _ c.loop-b-test.true c.requires.digits).0
 
-pub overflow-add-n : goal.overflow-add-n
-overflow-add-n c = omega (arith, ten_bound _ _ c.loop-b.invariant.1 (omega arith), digit_at _ _ c.loop-b-test.true c.requires.digits, c.from.ensures)
+pub overflow_add-n : goal.overflow_add-n
+overflow_add-n c = omega (arith, ten_bound _ _ c.loop-b.invariant.1 (omega arith), digit_at _ _ c.loop-b-test.true c.requires.digits, c.from.ensures)
 
 pub loop-b-preserved : goal.loop-b-preserved
 loop-b-preserved c =
@@ -24,8 +24,8 @@ loop-b-preserved c =
       subst (λ x. c.loop-b.n * 10 + x < 10 ^ (i + 1)) (sym c.from.ensures) (ten_more c.loop-b.n i d c.loop-b.invariant.1 lt),
     )
 
-pub overflow-cast-result : goal.overflow-cast-result
-overflow-cast-result c = record { sfits = omega (arith, ten_bound _ _ c.loop-b.invariant.1 (omega arith)) }
+pub overflow_cast-result : goal.overflow_cast-result
+overflow_cast-result c = record { sfits = omega (arith, ten_bound _ _ c.loop-b.invariant.1 (omega arith)) }
 
 pub returns : goal.returns
 returns c =

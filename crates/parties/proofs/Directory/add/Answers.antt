@@ -4,8 +4,8 @@ use Rattle.parties.specs.Directories.{entries_of, clashes}
 use Rattle.parties.proofs.Enrolling.{numbered_parts, numbered_set, enrolled_ok}
 use Rattle.parties.proofs.Directory.add.Goals as goal
 
-pub invariant-of-self : goal.invariant-of-self
-invariant-of-self c =
+pub invariant_of-self : goal.invariant_of-self
+invariant_of-self c =
     let d = c.args.self.now in
     let e = c.args.entry in
     let room : d.count < length d.entries = omega arith in (

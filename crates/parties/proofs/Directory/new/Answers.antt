@@ -3,5 +3,5 @@ use Rattle.parties.specs.Tables.{no_entry, InNumbers}
 use Rattle.parties.proofs.Rows.{all_same}
 use Rattle.parties.proofs.Directory.new.Goals as goal
 
-pub invariant-of-result : goal.invariant-of-result
-invariant-of-result c = (refl, (omega arith, ((λ a. subst InNumbers (sym (all_same 64 a no_entry)) (omega arith, omega arith, omega arith)), tt)))
+pub invariant_of-result : goal.invariant_of-result
+invariant_of-result c = (refl, (omega arith, ((λ a. subst InNumbers (sym (all_same 64 a no_entry)) (omega arith, omega arith, omega arith)), tt)))

@@ -6,8 +6,8 @@ use Rattle.strikes.specs.Classes.{strikes_of, comes_next}
 use Rattle.strikes.proofs.Adds.{proper_add, rises_add, highest_at, next_fits}
 use Rattle.strikes.proofs.Class.add.Goals as goal
 
-pub invariant-of-self : goal.invariant-of-self
-invariant-of-self c =
+pub invariant_of-self : goal.invariant_of-self
+invariant_of-self c =
     let class = c.args.self.now in
     let s : Strike = record { price = c.args.price; size = c.args.size } in
     let next = next_fits (strikes_of class) s (sym c.if-not-takes.ensures) in

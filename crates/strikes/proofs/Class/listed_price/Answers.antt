@@ -15,4 +15,4 @@ pub returns : goal.returns
 returns c =
     let ss = strikes_of c.args.self.now in
     let same : length c.strikes-strikes.result.now ≡ length ss = ap length c.strikes-strikes.ensures.value in
-    (omega (arith, length-listed ss), c.price-at.ensures ∙ ap (λ xs. get_or (listed (prices xs)) c.args.place 0) c.strikes-strikes.ensures.value)
+    (omega (arith, length-listed ss), c.price_at.ensures ∙ ap (λ xs. get_or (listed (prices xs)) c.args.place 0) c.strikes-strikes.ensures.value)

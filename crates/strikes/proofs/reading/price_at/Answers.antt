@@ -3,17 +3,17 @@ use Rattle.strikes.specs.Strikes.{strike_at}
 use Rattle.strikes.proofs.Places.{listed_strike, listed_between, listed_last}
 use Rattle.strikes.proofs.reading.price_at.Goals as goal
 
-pub overflow-mul-result : goal.overflow-mul-result
-overflow-mul-result c = omega (arith, c.requires.lawful.proper ((c.args.place - 1) / 2) (omega arith))
+pub overflow_mul-result : goal.overflow_mul-result
+overflow_mul-result c = omega (arith, c.requires.lawful.proper ((c.args.place - 1) / 2) (omega arith))
 
-pub overflow-add-result-then-i-strikes : goal.overflow-add-result-then-i-strikes
-overflow-add-result-then-i-strikes c = omega (arith, c.requires.lawful.proper ((c.args.place - 1) / 2) (omega arith), c.requires.lawful.proper ((c.args.place - 1) / 2 + 1) (omega arith))
+pub overflow_add-result-then-i-strikes : goal.overflow_add-result-then-i-strikes
+overflow_add-result-then-i-strikes c = omega (arith, c.requires.lawful.proper ((c.args.place - 1) / 2) (omega arith), c.requires.lawful.proper ((c.args.place - 1) / 2 + 1) (omega arith))
 
-pub overflow-mul-result-else-i-strikes : goal.overflow-mul-result-else-i-strikes
-overflow-mul-result-else-i-strikes c = omega (arith, c.requires.lawful.proper ((c.args.place - 1) / 2) (omega arith))
+pub overflow_mul-result-else-i-strikes : goal.overflow_mul-result-else-i-strikes
+overflow_mul-result-else-i-strikes c = omega (arith, c.requires.lawful.proper ((c.args.place - 1) / 2) (omega arith))
 
-pub overflow-add-result-else-i-strikes : goal.overflow-add-result-else-i-strikes
-overflow-add-result-else-i-strikes c = omega (arith, c.requires.lawful.proper ((c.args.place - 1) / 2) (omega arith))
+pub overflow_add-result-else-i-strikes : goal.overflow_add-result-else-i-strikes
+overflow_add-result-else-i-strikes c = omega (arith, c.requires.lawful.proper ((c.args.place - 1) / 2) (omega arith))
 
 pub returns-then-place-eq1 : goal.returns-then-place-eq1
 returns-then-place-eq1 c = sym (listed_strike _ c.args.place ((c.args.place - 1) / 2) (omega arith) (omega arith))

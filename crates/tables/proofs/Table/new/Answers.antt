@@ -5,6 +5,6 @@ use Rattle.tables.proofs.Table.new.Goals as goal
 
 pub returns : goal.returns
 returns c =
-    let h = c.in-ok-numbers.ensures in
-    let n : vec_len c.in-ok-numbers.numbers ≡ 4096 = h.len in
-    (omega (arith, n), λ a s. number_zero _ _ a s (λ k l. ap (λ xs. get_or xs k (pos 0)) (h.items-if-clones-equal (λ _ e. e)) ∙ get_or-replicate 4096 k (pos 0) (pos 0) (omega arith)))
+    let h = c.in_ok-numbers.ensures in
+    let n : vec_len c.in_ok-numbers.numbers ≡ 4096 = h.len in
+    (omega (arith, n), λ a s. number_zero _ _ a s (λ k l. ap (λ xs. get_or xs k (pos 0)) (h.items_if_clones_equal (λ _ e. e)) ∙ get_or-replicate 4096 k (pos 0) (pos 0) (omega arith)))

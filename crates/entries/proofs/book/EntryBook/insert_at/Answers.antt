@@ -2,8 +2,8 @@ use Rattle.std.proofs.Common.{◌-◌, vec_items, vec_len, arith}
 use Rattle.entries.specs.Whole.{book_from, exchange_keeps, put_ordered, put_wrote}
 use Rattle.entries.proofs.book.EntryBook.insert_at.Goals as goal
 
-pub invariant-of-self : goal.invariant-of-self
-invariant-of-self c =
+pub invariant_of-self : goal.invariant_of-self
+invariant_of-self c =
     let x = c.args.self.now in
     let v = c.exchange.new.records in
     book_from v _ (vec_len x.records) c.exchange.ensures.len

@@ -11,8 +11,8 @@ use Rattle.entries.proofs.book.EntryBook.new.Goals as goal
 freed_at : (ys xs : List Entry) (i j : ℕ) (e : Entry) → i < length ys → j ≡ i → e ≡ freed (nth xs i) → nth (set ys i e) j ≡ freed (nth xs j)
 freed_at ys xs i j e l q is = ap (nth (set ys i e)) q ∙ get_or-set_same ys i e (entry 0 0 (pos 0)) l ∙ is ∙ ap (λ m. freed (nth xs m)) (sym q)
 
-pub invariant-of-result : goal.invariant-of-result
-invariant-of-result c =
+pub invariant_of-result : goal.invariant_of-result
+invariant_of-result c =
     let inv = c.loop-k.invariant in
     (omega arith, (λ j k l m. absurd (omega arith), (λ k l. absurd (omega arith), (λ k g l. ap (λ (y : Entry). y.held) (inv.1 k (omega arith)), tt))))
 

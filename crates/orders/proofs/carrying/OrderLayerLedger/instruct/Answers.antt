@@ -10,19 +10,19 @@ use Rattle.orders.proofs.carrying.OrderLayerLedger.instruct.Goals as goal
 pub rests-after-rests-requires : goal.rests-after-rests-requires
 rests-after-rests-requires g c =
     let x = c.args.self.now in
-    (layer_ok (g.L.Ledger.meaning x.below) x.buys x.sells c.args.i c.in-ok-quote.quote c.in-ok-quote.ensures).checks.within
+    (layer_ok (g.L.Ledger.meaning x.below) x.buys x.sells c.args.i c.in_ok-quote.quote c.in_ok-quote.ensures).checks.within
 
 pub sent-requires : goal.sent-requires
 sent-requires g c =
     let x = c.args.self.now in
-    (layer_ok (g.L.Ledger.meaning x.below) x.buys x.sells c.args.i c.in-ok-quote.quote c.in-ok-quote.ensures).checks.within
+    (layer_ok (g.L.Ledger.meaning x.below) x.buys x.sells c.args.i c.in_ok-quote.quote c.in_ok-quote.ensures).checks.within
 
-pub invariant-of-self : goal.invariant-of-self
-invariant-of-self g c =
+pub invariant_of-self : goal.invariant_of-self
+invariant_of-self g c =
     let i = c.args.i in
     let x = c.args.self.now in
     let lawful = g.met.L.Ledger.lawful x.below in
-    let k = layer_ok (g.L.Ledger.meaning x.below) x.buys x.sells i c.in-ok-quote.quote c.in-ok-quote.ensures in
+    let k = layer_ok (g.L.Ledger.meaning x.below) x.buys x.sells i c.in_ok-quote.quote c.in_ok-quote.ensures in
     let new = c.rests-after-rests.result in
     let e = c.rests-after-rests.ensures in
     let fb : SFits w64 new.buys = search rules in
@@ -39,9 +39,9 @@ returns g c =
     let x = c.args.self.now in
     let meaning = g.L.Ledger.meaning in
     let y = c.send-below.new.below in
-    let q = c.in-ok-quote.quote in
+    let q = c.in_ok-quote.quote in
     let lawful = g.met.L.Ledger.lawful x.below in
-    let k = layer_ok (meaning x.below) x.buys x.sells i q c.in-ok-quote.ensures in
+    let k = layer_ok (meaning x.below) x.buys x.sells i q c.in_ok-quote.ensures in
     let new = c.rests-after-rests.result in
     let e = c.rests-after-rests.ensures in
     let fb : SFits w64 new.buys = search rules in
@@ -53,7 +53,7 @@ returns g c =
     let passed = subst (Passed meaning x.below y) c.sent.ensures c.send-below.ensures.passed in
     let d = done meaning x.below y i x.buys x.sells c.put.new.self c.put-2.new.self q k passed (wb.here k.checks.series lb ∙ e.buys) wb.elsewhere (ws.here k.checks.series ls ∙ e.sells) ws.elsewhere in
     record {
-      carried = record { answer = c.in-ok-quote.ensures; left = d.0; taken = passed_taken meaning x.below y _ passed };
+      carried = record { answer = c.in_ok-quote.ensures; left = d.0; taken = passed_taken meaning x.below y _ passed };
       kept = (c.send-below.ensures.kept, d.1);
       sent = passed;
     }

@@ -11,8 +11,8 @@ use Rattle.entries.proofs.book.carries.EntryBookLedger.instruct.Goals as goal
 pub write-requires : goal.write-requires
 write-requires c =
     let x = c.args.self.now in
-    let q = c.in-ok-quote.quote in
-    let f = book_ok 64 (capacity_of x) (held_at x) c.args.i q (sym c.in-ok-quote.ensures) in
+    let q = c.in_ok-quote.quote in
+    let f = book_ok 64 (capacity_of x) (held_at x) c.args.i q (sym c.in_ok-quote.ensures) in
     let fits : SFits w64 q.held = search rules in
     record {
       cell = (f.checks.account, f.checks.series);
@@ -23,8 +23,8 @@ write-requires c =
 pub returns : goal.returns
 returns c =
     let x = c.args.self.now in
-    let q = c.in-ok-quote.quote in
-    let e = c.in-ok-quote.ensures in
+    let q = c.in_ok-quote.quote in
+    let e = c.in_ok-quote.ensures in
     let f = book_ok 64 (capacity_of x) (held_at x) c.args.i q (sym e) in
     let fits : SFits w64 q.held = search rules in
     let w = c.write.ensures.wrote in
