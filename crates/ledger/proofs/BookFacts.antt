@@ -1,18 +1,17 @@
 -- The laws of every book, from its counts. Assumes nothing.
-use Rattle.std.proofs.Common.{◌≡◌, ℕ, ◌<◌, ◌≤◌, Bool, true, false, cond, not, ◌&&◌, eqb, ◌⊎◌, ℤ, pos, ◌+ℤ◌, ◌-ℤ◌, ◌≤ℤ◌, Ok, Err, sym, refl, ap, ◌∙◌, subst, arith}
+use Rattle.std.proofs.Common.{◌≡◌, ℕ, ◌≤◌, true, not, ◌⊎◌, ℤ, pos, ◌+ℤ◌, Ok, sym, refl, ap, ◌∙◌, subst, arith}
 use Rattle.std.proofs.lemmas.Bool.{false≢true, cond-true}
 use Rattle.std.proofs.lemmas.Int.{ints, clamps}
 use Rattle.ledger.specs.declared.actions.Action.{Action}
 use Rattle.ledger.specs.declared.actions.Action.TheVariants.{Fill, PlaceBuy, PlaceSell, CancelBuy, CancelSell, ExecuteBuy, ExecuteSell, AddCover, TakeCover}
 use Rattle.ledger.specs.declared.faults.Reason.TheVariants.{NoTaker, Reach, Full}
-use Rattle.ledger.specs.declared.faults.Fault.{Fault}
 use Rattle.ledger.specs.declared.cells.Cell.{Cell}
 use Rattle.ledger.specs.declared.cells.Quote.{Quote}
 use Rattle.ledger.specs.declared.cells.Instruction.{Instruction}
 use Rattle.ledger.specs.Actions.{is_fill, within, Within, step}
 use Rattle.ledger.specs.Checks.{Answer, checked, Checked, unless, ◌then◌}
-use Rattle.ledger.specs.Cells.{empty, standing, Ranged, Quotes, Moves, after}
-use Rattle.ledger.specs.Meanings.{Meaning, Lawful}
+use Rattle.ledger.specs.Cells.{Ranged, Quotes, after}
+use Rattle.ledger.specs.Meanings.{Lawful}
 use Rattle.ledger.specs.Books.{book_cell, flat, is_full, book_answer, book_meaning, held_cells, BookLaws}
 use Rattle.ledger.proofs.Chains.{unless_ok, then_ok, then_err, within_in, checked_ok}
 

@@ -1,6 +1,5 @@
 -- What an answer that is no refusal says of each check on the way to it. Assumes nothing.
-use Rattle.std.proofs.Common.{◌≡◌, ℕ, ◌<◌, Bool, true, false, cond, ◌&&◌, ltb, ℤ, pos, negsuc, ◌≤ℤ◌, ◌<ℤ◌, Ok, Err, Result, sym, refl, ap, ◌∙◌, subst, arith}
-use lib.Signed.{le_z, lt_z}
+use Rattle.std.proofs.Common.{◌≡◌, ℕ, Bool, true, false, ◌&&◌, ltb, ℤ, Ok, Err, Result, sym, refl, ◌∙◌, arith}
 use Rattle.std.proofs.lemmas.Bool.{and_parts, ltb-true}
 use Rattle.std.proofs.lemmas.Int.{ints}
 use Rattle.ledger.specs.declared.actions.Action.{Action}
@@ -11,7 +10,7 @@ use Rattle.ledger.specs.declared.cells.Quote.{Quote}
 use Rattle.ledger.specs.declared.cells.Instruction.{Instruction}
 use Rattle.ledger.specs.Faults.{found}
 use Rattle.ledger.specs.Actions.{within, Within, proper}
-use Rattle.ledger.specs.Checks.{Answer, unless, ◌then◌, checked, Checked}
+use Rattle.ledger.specs.Checks.{unless, ◌then◌, checked, Checked}
 use Rattle.ledger.specs.Meanings.{Meaning, Lawful}
 
 module _ {T : Type 0} where

@@ -1,4 +1,4 @@
-use Rattle.std.proofs.Common.{pos, vec_items, vec_len, sym, ◌∙◌, inl, inr, arith, w64, SFits, rules}
+use Rattle.std.proofs.Common.{pos, vec_items, sym, ◌∙◌, arith, w64, SFits, rules}
 use Rattle.std.proofs.lemmas.Int.{to_z-of_z}
 use Rattle.std.proofs.lemmas.List.{get_or_read}
 use Rattle.tables.specs.Tables.{rows_of}

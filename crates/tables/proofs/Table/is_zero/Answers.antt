@@ -1,4 +1,4 @@
-use Rattle.std.proofs.Common.{◌≡◌, ◌*◌, ◌/◌, ◌%◌, ◌<◌, pos, vec_items, vec_len, sym, refl, ap, ◌∙◌, arith, w64, of_z}
+use Rattle.std.proofs.Common.{◌≡◌, ◌/◌, ◌%◌, pos, vec_items, sym, refl, ap, ◌∙◌, arith, w64, of_z}
 use Rattle.std.proofs.lemmas.List.{get_or_read}
 use Rattle.std.proofs.lemmas.Bool.{false≢true}
 use Rattle.tables.specs.Tables.{rows_of}

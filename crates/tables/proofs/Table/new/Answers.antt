@@ -1,4 +1,4 @@
-use Rattle.std.proofs.Common.{◌≡◌, get_or, pos, vec_items, vec_len, ap, ◌∙◌, arith}
+use Rattle.std.proofs.Common.{◌≡◌, get_or, pos, vec_len, ap, ◌∙◌, arith}
 use lib.ListN.{get_or-replicate}
 use Rattle.tables.proofs.Rows.{number_zero}
 use Rattle.tables.proofs.Table.new.Goals as goal

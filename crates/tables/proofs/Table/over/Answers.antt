@@ -1,4 +1,4 @@
-use Rattle.std.proofs.Common.{vec_items, vec_len, ◌∙◌, arith}
+use Rattle.std.proofs.Common.{arith}
 use Rattle.tables.proofs.Rows.{number_zero}
 use Rattle.tables.proofs.Table.over.Goals as goal
 

@@ -1,4 +1,4 @@
-use Rattle.std.proofs.Common.{◌+◌, ◌*◌, vec_items, vec_len, refl, ◌∙◌, arith, length-set, get_or-set_other, w64}
+use Rattle.std.proofs.Common.{◌+◌, ◌*◌, vec_items, refl, ◌∙◌, arith, length-set, get_or-set_other, w64}
 use Rattle.std.proofs.lemmas.Int.{to_z-of_z}
 use Rattle.tables.specs.Tables.{rows_of}
 use Rattle.tables.proofs.Rows.{number_set_same, number_set_other}
