@@ -1,15 +1,14 @@
 -- Every price compares with every strike as some listed price does. Assumes nothing.
-use Rattle.std.proofs.Common.{◌≡◌, ℕ, suc, ◌+◌, ◌*◌, ◌<◌, ◌≤◌, Bool, true, false, ltb, ◌⊎◌, List, [], ◌∷◌, map, length, get_or, sym, refl, ap, ◌∙◌, subst, inl, inr, ⊎_elim, mul-le-mul_right, mul-lt-mul_of_pos_right, arith}
+use Rattle.std.proofs.Common.{◌≡◌, ℕ, suc, ◌+◌, ◌*◌, ◌<◌, ◌≤◌, List, [], ◌∷◌, length, get_or, sym, ◌∙◌, subst, ⊎_elim, mul-lt-mul_of_pos_right, arith}
 use lib.ListN.{length-map}
 use Rattle.std.specs.List.{AllByRecursion as All}
 use Rattle.std.proofs.lemmas.Bool.{lt-ltb, le-ltb, cases_lt, cases_order}
 use Rattle.std.proofs.ByRecursion.{All-weaker, All-get_or, All-from_get_or}
 use Rattle.std.proofs.lemmas.List.{get_or-map}
 use Rattle.strikes.specs.declared.strike.Strike.{Strike}
-use Rattle.strikes.specs.Strikes.{no_strike, strike_at, prices, AllProper, Rises, Lawful}
+use Rattle.strikes.specs.Strikes.{no_strike, prices, AllProper, Rises, Lawful}
 use Rattle.strikes.specs.Listed.{listed, from_first}
-use Rattle.expiry.specs.Expiry.{call_exercised, put_exercised}
-use Rattle.expiry.specs.Quantities.{price_at, Same, Like, EveryPriceListed}
+use Rattle.expiry.specs.Quantities.{price_at, Same, EveryPriceListed}
 
 -- rising from 1, by recursion on the list
 abbrev Rising : List ℕ → Type 0

@@ -1,13 +1,12 @@
 -- Numbers near 0 fit the machine, and so do their products and sums. Assumes nothing.
-use Rattle.std.proofs.Common.{◌≡◌, ℕ, suc, ◌+◌, ◌*◌, ◌^◌, ◌<◌, ◌≤◌, true, false, cond, ltb, List, length, get_or, ℤ, pos, negsuc, ◌+ℤ◌, ◌-ℤ◌, ◌*ℤ◌, neg_ℤ, ◌≤ℤ◌, sym, refl, ap, ◌∙◌, subst, ⊎_elim, mul-le-mul, arith, w64, SFits, to_z, of_z}
-use borrow.Author.Differences.{up, down, product_is}
+use Rattle.std.proofs.Common.{◌≡◌, ℕ, suc, ◌+◌, ◌*◌, ◌^◌, ◌<◌, ◌≤◌, List, length, get_or, ℤ, pos, negsuc, ◌+ℤ◌, ◌-ℤ◌, ◌*ℤ◌, sym, ap, ◌∙◌, subst, ⊎_elim, mul-le-mul, arith, w64, SFits, to_z, of_z}
 use Rattle.std.proofs.lemmas.Int.{ints, to_z-of_z, to_z_pos}
 use Rattle.std.proofs.lemmas.Bool.{lt-ltb, le-ltb, cases_order}
 use Rattle.strikes.specs.declared.strike.Strike.{Strike}
 use Rattle.strikes.specs.Strikes.{strike_at, Lawful}
 use Rattle.expiry.specs.declared.sum.Sum.{Sum}
 use Rattle.expiry.specs.Near.{Near}
-use Rattle.expiry.specs.Expiry.{sum_to, through, receipt}
+use Rattle.expiry.specs.Expiry.{through, receipt}
 use Rattle.expiry.specs.Quantities.{at, no_sum, calls_puts}
 use Rattle.expiry.proofs.Sums.{sum_more, sum_near}
 use Rattle.expiry.proofs.Receipts.{calls_puts_cases}

@@ -1,13 +1,13 @@
 -- The greatest of 0 and a list. Assumes nothing.
-use Rattle.std.proofs.Common.{◌≡◌, ℕ, zero, suc, ◌<◌, true, false, ◌⊎◌, List, [], ◌∷◌, length, get_or, ℤ, pos, ◌≤ℤ◌, ◌<ℤ◌, Some, None, Option, Ordering, Less, Equal, Greater, sym, refl, ◌∙◌, subst, inl, inr, arith}
+use Rattle.std.proofs.Common.{◌≡◌, ℕ, zero, suc, ◌<◌, true, false, List, [], ◌∷◌, length, get_or, ℤ, pos, ◌≤ℤ◌, ◌<ℤ◌, Some, None, Option, Ordering, Less, Equal, Greater, sym, refl, ◌∙◌, subst, arith}
 use lib.Signed.{≤ℤ_refl}
-use Rattle.std.specs.Cmp.{int_ranks, int_cmp_total}
+use Rattle.std.specs.Cmp.{int_ranks}
 use Rattle.std.specs.Ordering.{is_lt, MatchOrdering, int_cmp}
 use Rattle.std.proofs.lemmas.Int.{ints, clamps}
 use Rattle.std.proofs.lemmas.Bool.{true≢false}
 use Rattle.greatest.specs.declared.Peak.{Peak}
 use Rattle.greatest.specs.Greatest.{Stands}
-use Rattle.expiry.specs.Quantities.{Greatest, MetFirst, most}
+use Rattle.expiry.specs.Quantities.{Greatest, most}
 use Rattle.expiry.proofs.Sums.{≤ℤ_both}
 
 -- the order of whole numbers, read from what `cmp` answers
@@ -28,7 +28,7 @@ is_above : (x y : ℤ) → is_lt (int_cmp x y) ≡ true → x <ℤ y
 is_above x y = ranked_true x y (int_cmp x y) (int_ranks x y)
 
 -- from the first greatest of a list
-module _ (xs : List ℤ) (p : Peak) (stands : Stands int_cmp_total xs p) where
+module _ (xs : List ℤ) (p : Peak) (stands : Stands int_cmp xs p) where
   pub greatest_some : (v : ℤ) → get_or xs p.first (pos 0) ≡ v → pos 0 <ℤ v → Greatest xs v (Some p.first)
   greatest_some v e l = record {
     above = l;

@@ -1,11 +1,11 @@
 -- The quantities are exact over every price and every count of every account, and monotone in the ranges. Assumes nothing.
-use Rattle.std.proofs.Common.{◌≡◌, ℕ, zero, suc, ◌+◌, ◌*◌, ◌%◌, ◌<◌, ◌≤◌, Bool, true, false, cond, eqb, List, map, length, get_or, take, ℤ, pos, neg_ℤ, ◌≤ℤ◌, Some, None, Option, sym, refl, ap, ◌∙◌, subst, arith, length-take}
+use Rattle.std.proofs.Common.{◌≡◌, ℕ, ◌+◌, ◌*◌, ◌%◌, ◌<◌, ◌≤◌, Bool, true, false, cond, eqb, List, length, get_or, take, ℤ, pos, neg_ℤ, ◌≤ℤ◌, Some, None, Option, sym, refl, ap, ◌∙◌, subst, arith, length-take}
 use Rattle.std.proofs.lemmas.Int.{ints}
 use lib.ListN.{length-map}
 use lib.Signed.{≤ℤ_refl}
 use Rattle.std.proofs.lemmas.List.{get_or-map, get_or_default, get_or-take, same_lists}
 use Rattle.strikes.specs.declared.strike.Strike.{Strike}
-use Rattle.strikes.specs.Strikes.{strike_at, prices, Lawful}
+use Rattle.strikes.specs.Strikes.{prices, Lawful}
 use Rattle.strikes.specs.Listed.{listed}
 use Rattle.strikes.proofs.Places.{length-listed}
 use Rattle.expiry.specs.declared.side.Side.{Side}
@@ -14,11 +14,11 @@ use Rattle.expiry.specs.declared.quantity.Quantity.{Quantity}
 use Rattle.expiry.specs.declared.sum.Sum.{Sum}
 use Rattle.expiry.specs.Near.{Near}
 use Rattle.expiry.specs.Expiry.{sum_to, receipt}
-use Rattle.expiry.specs.Quantities.{at, calls_puts, flow, extreme, flows, price_at, most, quantity, Greatest}
-use Rattle.expiry.specs.Parties.{Party, summed, PartyOf, Possible, party_receipt, Covers, Met, Exact, Inside}
+use Rattle.expiry.specs.Quantities.{at, calls_puts, flow, extreme, flows, price_at, quantity, Greatest}
+use Rattle.expiry.specs.Parties.{Party, summed, PartyOf, Possible, Covers, Met, Exact, Inside}
 use Rattle.expiry.proofs.Sums.{≤ℤ_chain, ≤ℤ_opposite, sum_le}
 use Rattle.expiry.proofs.Agree.{every_price_listed}
-use Rattle.expiry.proofs.Receipts.{calls_at, puts_at, calls_puts_cases, Favours, receipt_le, receipt_same, receipt_alike, receipt_summed}
+use Rattle.expiry.proofs.Receipts.{calls_at, puts_at, calls_puts_cases, receipt_le, receipt_same, receipt_alike, receipt_summed}
 use Rattle.expiry.proofs.Bounds.{receipt_near}
 use Rattle.expiry.proofs.Choose.{most_bound, most_zero, most_under, greatest_most}
 

@@ -1,5 +1,5 @@
 -- The quantities of a party, from its low and its high in each series. Assumes nothing.
-use Rattle.std.specs.Prelude.{◌≡◌, ℕ, ◌*◌, ◌%◌, ◌<◌, cond, List, [], ◌∷◌, map, length, get_or, ℤ, pos, neg_ℤ, ◌≤ℤ◌, ◌<ℤ◌, Some, None, Option, ◌==◌, slice_index, slice_index_or}
+use Rattle.std.specs.Prelude.{◌≡◌, ℕ, ◌%◌, ◌<◌, cond, List, [], ◌∷◌, map, length, get_or, ℤ, pos, neg_ℤ, ◌≤ℤ◌, ◌<ℤ◌, Some, None, Option, ◌==◌, slice_index, slice_index_or}
 use Rattle.std.specs.Int.{int_max}
 use Rattle.strikes.specs.declared.strike.Strike.{Strike}
 use Rattle.strikes.specs.Strikes.{strike_at, prices}

@@ -1,5 +1,6 @@
 // How many units of the underlying a party might take or hand over at expiry.
 #![tactic(auto)]
+
 ghost use Rattle.std.specs.Prelude.{◌≡◌};
 ghost use Rattle.strikes.specs.Classes.{strikes_of};
 ghost use Rattle.expiry.specs.declared.side.Side.TheVariants.{Long, Short};

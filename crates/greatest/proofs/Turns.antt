@@ -1,5 +1,5 @@
 -- One turn of the search for the first greatest entry. Assumes nothing.
-use Rattle.std.proofs.Common.{◌≡◌, ℕ, ◌+◌, ◌<◌, Bool, true, false, List, length, get_or, Ordering}
+use Rattle.std.proofs.Common.{◌≡◌, ℕ, ◌+◌, ◌<◌, true, false, List, length, get_or, Ordering}
 use Rattle.std.specs.Cmp.{IsTotalOrder, IsStrictWeakOrder}
 use Rattle.std.specs.Ordering.{is_lt}
 use Rattle.std.specs.List.{IsFirstBest}
@@ -8,15 +8,15 @@ use Rattle.greatest.specs.Greatest.{above}
 
 module _ {K : Type 0} {R : K → K → Ordering} (o : IsTotalOrder R) where
   -- a total order turned round is one still
-  above_ranks : IsStrictWeakOrder (above o)
+  above_ranks : IsStrictWeakOrder (above R)
   above_ranks = IsStrictWeakOrder-flip (λ x y. is_lt (R x y)) (ranks_by o (λ x. x))
 
   -- x at i was compared with y at b, the first greatest so far
-  module _ (xs : List K) (i b : ℕ) (x y : K) (inv : IsFirstBest (above o) xs i b) (within : i < length xs) (x_is : x ≡ get_or xs i x) (y_is : y ≡ get_or xs b y) where
+  module _ (xs : List K) (i b : ℕ) (x y : K) (inv : IsFirstBest (above R) xs i b) (within : i < length xs) (x_is : x ≡ get_or xs i x) (y_is : y ≡ get_or xs b y) where
     -- an entry above the greatest so far is above all before it
-    pub turn_takes : above o x y ≡ true → IsFirstBest (above o) xs (i + 1) i
+    pub turn_takes : above R x y ≡ true → IsFirstBest (above R) xs (i + 1) i
     turn_takes h = IsFirstBest-takes above_ranks xs i b x y inv within x_is y_is h
 
     -- an entry not above it leaves it the greatest, and the first
-    pub turn_keeps : above o x y ≡ false → IsFirstBest (above o) xs (i + 1) b
+    pub turn_keeps : above R x y ≡ false → IsFirstBest (above R) xs (i + 1) b
     turn_keeps h = IsFirstBest-keeps above_ranks xs i b x y inv within x_is y_is h

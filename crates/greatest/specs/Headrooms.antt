@@ -1,5 +1,6 @@
 -- The order of headrooms, and that it is total. Assumes nothing.
-use Rattle.std.specs.Prelude.{◌≡◌, ℤ, refl}
+use Rattle.std.specs.Prelude.{◌≡◌, refl}
+use Rattle.std.specs.declared.cmp.Reverse.{Reverse}
 use Rattle.std.specs.declared.cmp.Ordering.TheVariants.{Less, Equal, Greater}
 use Rattle.std.specs.declared.cmp.Ordering.{Ordering}
 use Rattle.std.proofs.Common.{ap, true≢false}
@@ -37,5 +38,9 @@ levels (Left x) (Left y) Missing h = refl
 levels (Left x) (Left y) (Left z) h = int_cmp_total.congr x y z h
 
 -- that order is total
-abbrev pub headrooms : IsTotalOrder (λ (x y : Headroom) (r : Ordering). r ≡ rank x y)
-headrooms = record { cmp = rank; says = λ x y r h. h; flip = flips; trans = chains; alike = levels }
+pub headrooms : IsTotalOrder rank
+headrooms = record { antisymm = flips; trans = chains; congr = levels }
+
+-- an order turned round, as the entries of `Reverse` have it
+abbrev pub opposite : {K : Type 0} → (K → K → Ordering) → Reverse K → Reverse K → Ordering
+opposite R x y = R y.0 x.0

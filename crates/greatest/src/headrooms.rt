@@ -1,6 +1,6 @@
 // What a limit leaves above a quantity.
 ghost use Rattle.std.specs.Prelude.{◌≡◌, Some, refl};
-ghost use Rattle.greatest.specs.Headrooms.{rank};
+ghost use Rattle.greatest.specs.Headrooms.{rank, headrooms};
 ghost use Rattle.std.specs.Cmp.Rules.{comparing};
 ghost use Rattle.std.proofs.Common.{rules};
 ghost use Rattle.std.specs.Cmp.{partial_order_from_agreeing_total};
@@ -17,7 +17,7 @@ pub enum Headroom {
 impl PartialOrd for Headroom {
     ghost partial_cmp = { λ x y. Some (rank x y) };
 
-    ghost laws = { partial_order_from_agreeing_total (λ x y. rank x y) (Prim.search (comparing, rules)) (λ _ _. refl) (Prim.search (comparing, rules)) };
+    ghost laws = { partial_order_from_agreeing_total rank headrooms (λ _ _. refl) (Prim.search (comparing, rules)) };
 
     fn partial_cmp(&self, other: &Headroom) -> Option<Ordering> {
         Some(self.cmp(other))
@@ -27,7 +27,7 @@ impl PartialOrd for Headroom {
 impl Ord for Headroom {
     ghost cmp = { λ x y. rank x y };
 
-    ghost total = { Prim.search (comparing, rules) };
+    ghost total = { headrooms };
 
     ghost matches_partial_cmp = { Prim.search (comparing, rules) };
 

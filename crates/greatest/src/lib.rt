@@ -1,9 +1,9 @@
 // The first greatest entry of a list, for any kind of entry whose order is total.
 #![tactic(auto)]
+
 ghost use Rattle.std.specs.Prelude.{◌≡◌, ℕ, ◌<◌, length, MatchOption};
-ghost use Rattle.std.specs.Cmp.{IsTotalOrder, opposite};
 ghost use Rattle.greatest.specs.Greatest.{above, FirstGreatest};
-ghost use Rattle.greatest.specs.Headrooms.{headrooms};
+ghost use Rattle.greatest.specs.Headrooms.{rank, opposite};
 
 use std::cmp::Reverse;
 
@@ -19,7 +19,7 @@ pub struct Peak {
 
 // Whether x is above y.
 fn exceeds<T: Ord>(x: &T, y: &T) -> bool
-    ensures { (o : IsTotalOrder T.Ord.cmp) → result ≡ above o x.now y.now }
+    ensures { result ≡ above T.cmp x.now y.now }
 {
     y.cmp(x).is_lt()
 }
@@ -27,7 +27,7 @@ fn exceeds<T: Ord>(x: &T, y: &T) -> bool
 // The first place whose entry no other exceeds. An empty list has none.
 pub fn first_greatest<T: Ord>(list: &[T]) -> Option<Peak>
     ensures within { MatchOption result (length list.now ≡ 0) (λ p. p.first < length list.now) }
-    ensures greatest { (o : IsTotalOrder T.Ord.cmp) → FirstGreatest o list.now result }
+    ensures greatest { FirstGreatest T.cmp list.now result }
 {
     if list.is_empty() {
         return None;
@@ -43,7 +43,7 @@ pub fn first_greatest<T: Ord>(list: &[T]) -> Option<Peak>
 
 // The first least of a list of headrooms.
 pub fn least_headroom(all: &[Reverse<Headroom>]) -> Option<Peak>
-    ensures { FirstGreatest (opposite headrooms) all.now result }
+    ensures { FirstGreatest (opposite rank) all.now result }
 {
     first_greatest(all)
 }

@@ -13,11 +13,11 @@ returns c =
     let ss = strikes_of c.args.class.now in
     let low = at c.args.low in
     let high = at c.args.high in
-    let l = c.greatest-flow-long.result in
-    let s = c.greatest-flow-short.result in
+    let l = c.greatest_flow-long.result in
+    let s = c.greatest_flow-short.result in
     let lawful = subst Lawful c.strikes-strikes.ensures.value c.strikes-strikes.ensures.lawful in
-    let long = subst (λ xs. Greatest (flows Long xs (extreme Long low high)) l.value l.place) c.strikes-strikes.ensures.value c.greatest-flow-long.ensures in
-    let short = subst (λ xs. Greatest (flows Short xs (extreme Short low high)) s.value s.place) c.strikes-strikes.ensures.value c.greatest-flow-short.ensures in
+    let long = subst (λ xs. Greatest (flows Long xs (extreme Long low high)) l.value l.place) c.strikes-strikes.ensures.value c.greatest_flow-long.ensures in
+    let short = subst (λ xs. Greatest (flows Short xs (extreme Short low high)) s.value s.place) c.strikes-strikes.ensures.value c.greatest_flow-short.ensures in
     let long-is = greatest_most (flows Long ss (extreme Long low high)) l.value l.place long in
     let short-is = greatest_most (flows Short ss (extreme Short low high)) s.value s.place short in
     record {

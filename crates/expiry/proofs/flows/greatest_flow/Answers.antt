@@ -5,7 +5,7 @@ use Rattle.expiry.proofs.flows.greatest_flow.Goals as goal
 pub returns : goal.returns
 returns c =
     let n = 2 * length c.args.strikes.now + 1 in
-    let list = c.list-flows-list.result in
-    let r = c.greatest-of.result in
+    let list = c.list_flows-list.result in
+    let r = c.greatest_of.result in
     let e : n - 0 ≡ n = omega arith in
-    subst (λ xs. Greatest xs r.value r.place) (ap (λ k. take k list) e ∙ c.list-flows-list.ensures) c.greatest-of.ensures
+    subst (λ xs. Greatest xs r.value r.place) (ap (λ k. take k list) e ∙ c.list_flows-list.ensures) c.greatest_of.ensures

@@ -1,4 +1,4 @@
-use Rattle.std.proofs.Common.{◌≡◌, ℕ, ◌+◌, ◌-◌, ◌*◌, ◌<◌, ◌≢◌, length, get_or, set, sym, refl, ap, ◌∙◌, subst, arith, length-set, get_or-set_other, get_or-set_same, w64, SFits, to_z, of_z, rules, below_more}
+use Rattle.std.proofs.Common.{◌≡◌, ◌+◌, ◌-◌, ◌<◌, ◌≢◌, length, sym, refl, ap, ◌∙◌, subst, arith, length-set, get_or-set_other, get_or-set_same, w64, SFits, to_z, of_z, rules, below_more}
 use Rattle.std.proofs.lemmas.Int.{to_z-of_z}
 use Rattle.expiry.specs.Near.{Near}
 use Rattle.expiry.specs.Quantities.{at, calls_puts, flow}
@@ -10,15 +10,15 @@ use Rattle.expiry.proofs.flows.list_flows.Goals as goal
 pub loop-place-init : goal.loop-place-init
 loop-place-init c = (
   refl,
-  ap (λ z. to_z w64 (of_z w64 z)) (c.receipt-at-zero-receipt.ensures (at c.args.calls.now)) ∙ near_back 20480000000000000 _ (omega arith) (receipt_near c.args.strikes.now c.args.calls.now c.args.puts.now 0 2 c.requires),
+  ap (λ z. to_z w64 (of_z w64 z)) (c.receipt_at_zero-receipt.ensures (at c.args.calls.now)) ∙ near_back 20480000000000000 _ (omega arith) (receipt_near c.args.strikes.now c.args.calls.now c.args.puts.now 0 2 c.requires),
   λ k l. absurd (omega arith),
 )
 
-pub next-receipt-receipt-requires : goal.next-receipt-receipt-requires
-next-receipt-receipt-requires c = record { lawful = c.requires; within = omega arith; before = c.loop-place.invariant.1 }
+pub next_receipt-receipt-requires : goal.next_receipt-receipt-requires
+next_receipt-receipt-requires c = record { lawful = c.requires; within = omega arith; before = c.loop-place.invariant.1 }
 
 pub turned-requires : goal.turned-requires
-turned-requires c = subst (Near 20480000000000000) (sym (near_back 20480000000000000 _ (omega arith) c.next-receipt-receipt.ensures.bound)) c.next-receipt-receipt.ensures.bound
+turned-requires c = subst (Near 20480000000000000) (sym (near_back 20480000000000000 _ (omega arith) c.next_receipt-receipt.ensures.bound)) c.next_receipt-receipt.ensures.bound
 
 pub loop-place-preserved : goal.loop-place-preserved
 loop-place-preserved c =
@@ -27,8 +27,8 @@ loop-place-preserved c =
     let puts = c.args.puts.now in
     let place = c.loop-place.place in
     let on : place ≡ place + 1 - 1 = omega arith in
-    let receipt : to_z w64 (of_z w64 c.next-receipt-receipt.result) ≡ receipt_of ss calls puts place
-    = near_back 20480000000000000 _ (omega arith) c.next-receipt-receipt.ensures.bound ∙ c.next-receipt-receipt.ensures.value in
+    let receipt : to_z w64 (of_z w64 c.next_receipt-receipt.result) ≡ receipt_of ss calls puts place
+    = near_back 20480000000000000 _ (omega arith) c.next_receipt-receipt.ensures.bound ∙ c.next_receipt-receipt.ensures.value in
     let f : SFits w64 c.turned.result = search rules in
     let within : place < length c.loop-place.list = omega (arith, c.requires.few, c.loop-place-test.true, c.loop-place.invariant.0) in (
       simp length-set c.loop-place.invariant.0,

@@ -1,4 +1,4 @@
-use Rattle.std.proofs.Common.{◌≡◌, ℕ, ◌+◌, ◌-◌, ◌*◌, ◌/◌, ◌<◌, length, get_or, pos, ◌*ℤ◌, sym, ap, ◌∙◌, subst, arith, w64, to_z, of_z, rules}
+use Rattle.std.proofs.Common.{◌≡◌, ◌+◌, ◌-◌, ◌*◌, ◌/◌, ◌<◌, length, get_or, pos, ◌*ℤ◌, sym, ap, ◌∙◌, subst, arith, w64, to_z, of_z, rules}
 use Rattle.std.proofs.lemmas.List.{get_or_default}
 use Rattle.strikes.specs.Strikes.{strike_at}
 use Rattle.expiry.specs.declared.sum.Sum.{Sum}

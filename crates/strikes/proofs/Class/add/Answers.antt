@@ -1,8 +1,8 @@
-use Rattle.std.proofs.Common.{◌≡◌, ◌<◌, true, ltb, length, sym, ap, ◌∙◌, arith, length-set}
+use Rattle.std.proofs.Common.{◌≡◌, ◌<◌, true, ltb, length, sym, ◌∙◌, arith, length-set}
 use Rattle.std.proofs.lemmas.List.{take_more_set, length-take-le}
 use Rattle.std.proofs.lemmas.Bool.{lt-ltb, cond-true}
 use Rattle.strikes.specs.declared.strike.Strike.{Strike}
-use Rattle.strikes.specs.Classes.{strikes_of, comes_next}
+use Rattle.strikes.specs.Classes.{strikes_of}
 use Rattle.strikes.proofs.Adds.{proper_add, rises_add, highest_at, next_fits}
 use Rattle.strikes.proofs.Class.add.Goals as goal
 
@@ -11,20 +11,15 @@ invariant_of-self c =
     let class = c.args.self.now in
     let s : Strike = record { price = c.args.price; size = c.args.size } in
     let next = next_fits (strikes_of class) s (sym c.if-not-takes.ensures) in
-    let room : class.count < length class.strikes = omega arith in (
-      length-set class.strikes class.count s ∙ class.whole,
-      (
-        omega arith,
-        (
-          proper_add class.strikes class.count s room class.proper next.0,
-          (
-            rises_add class.strikes class.count s room class.rises
-                (λ some. let above = next.1 in let e = highest_at class.strikes class.count some (omega arith) in omega arith),
-            tt,
-          ),
-        ),
-      ),
-    )
+    let room : class.count < length class.strikes = omega arith in
+    record {
+      whole = length-set class.strikes class.count s ∙ class.whole;
+      few = omega arith;
+      proper = proper_add class.strikes class.count s room class.proper next.0;
+      rises =
+          rises_add class.strikes class.count s room class.rises
+          (λ some. let above = next.1 in let e = highest_at class.strikes class.count some (omega arith) in omega arith);
+    }
 
 pub returns : goal.returns
 returns c =

@@ -1,5 +1,4 @@
-use Rattle.std.proofs.Common.{◌≡◌, ◌+◌, ◌-◌, ◌/◌, ◌<◌, ◌≤◌, length, sym, arith}
-use Rattle.strikes.specs.Strikes.{strike_at}
+use Rattle.std.proofs.Common.{◌+◌, ◌-◌, ◌/◌, sym, arith}
 use Rattle.strikes.proofs.Places.{listed_strike, listed_between, listed_last}
 use Rattle.strikes.proofs.reading.price_at.Goals as goal
 
