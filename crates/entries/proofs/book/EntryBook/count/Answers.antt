@@ -21,9 +21,9 @@ returns-then-account-ge-WIDTH c =
 pub returns-in-Ok : goal.returns-in-Ok
 returns-in-Ok c =
     let x = c.args.self.now in
-    let f : SFits w64 c.entry-at.result.held = search rules in
+    let f : SFits w64 c.entry_at.result.held = search rules in
     let h = c.in-Ok.ensures in
-    let k = counted x c.args.account c.args.series _ (to_z-of_z w64 _ f ∙ ap (λ (e : Entry). e.held) c.entry-at.ensures.value ∙ sym (held_live (items x) x.live (capacity_of x) (ordered x) c.in-Ok.k _ _ c.if-series-ge-WIDTH.false h.0 h.1)) in
+    let k = counted x c.args.account c.args.series _ (to_z-of_z w64 _ f ∙ ap (λ (e : Entry). e.held) c.entry_at.ensures.value ∙ sym (held_live (items x) x.live (capacity_of x) (ordered x) c.in-Ok.k _ _ c.if-series-ge-WIDTH.false h.0 h.1)) in
     record { value = k.0; within = k.1 }
 
 pub returns-in-Err : goal.returns-in-Err

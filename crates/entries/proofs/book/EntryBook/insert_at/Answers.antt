@@ -6,8 +6,8 @@ pub invariant_of-self : goal.invariant_of-self
 invariant_of-self c =
     let x = c.args.self.now in
     let v = c.exchange.new.records in
-    book_from v _ (vec_len x.records) c.exchange.ensures.len
-    (put_ordered x c.args.k c.capacity-last.result c.args.e c.capacity-last.ensures c.requires.gap c.requires.live c.requires.room (vec_items v) c.exchange.ensures.items)
+    (let all = book_from v _ (vec_len x.records) c.exchange.ensures.len
+    (put_ordered x c.args.k c.capacity-last.result c.args.e c.capacity-last.ensures c.requires.gap c.requires.live c.requires.room (vec_items v) c.exchange.ensures.items) in (all.0, all.1))
 
 pub returns : goal.returns
 returns c =

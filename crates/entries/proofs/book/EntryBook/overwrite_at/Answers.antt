@@ -6,7 +6,7 @@ use Rattle.entries.proofs.book.EntryBook.overwrite_at.Goals as goal
 pub invariant_of-self : goal.invariant_of-self
 invariant_of-self c =
     let x = c.args.self.now in
-    book_from (with_item x.records c.args.k c.args.e) _ (vec_len x.records) refl (over_ordered x c.args.k c.args.e c.requires.below c.requires.cell c.requires.live)
+    (let all = book_from (with_item x.records c.args.k c.args.e) _ (vec_len x.records) refl (over_ordered x c.args.k c.args.e c.requires.below c.requires.cell c.requires.live) in (all.0, all.1))
 
 pub returns : goal.returns
 returns c =

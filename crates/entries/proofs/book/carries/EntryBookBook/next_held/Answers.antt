@@ -18,10 +18,10 @@ pub returns : goal.returns
 returns c =
     let x = c.args.self.now in
     let k = c.position-k.result in
-    let e = c.entry-at-e.result in
+    let e = c.entry_at-e.result in
     let parts = c.position-k.ensures in
-    let live = c.entry-at-e.ensures.live in
-    let is = c.entry-at-e.ensures.value in
+    let live = c.entry_at-e.ensures.live in
+    let is = c.entry_at-e.ensures.value in
     let below = c.if-k-self.false in
     let at : place_of (nth (items x) k) ≡ place_of e = ap place_of (sym is) in
     let fits : SFits w64 e.held = search rules in
