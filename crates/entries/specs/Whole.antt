@@ -30,8 +30,8 @@ has_room x i open-yet zero =
     (and_cases (not (nonzero (held_at x i.account i.series))) (held_cells (held_at x) == capacity_of x) (not-true _ open-yet))
 
 -- ordered records make a book
-pub book_from : (v : Vec Entry Global) (n len : ℕ) → vec_len v ≡ len → Ordered (vec_items v) n (room len) → (n ≤ room (vec_len v)) × (Rises (vec_items v) n × (Known (vec_items v) n × (Free (vec_items v) n (room (vec_len v)) × Unit {0})))
-book_from v n len e o = (let f = o.fits in omega arith, (o.rises, (o.known, (λ k g l. o.free k g (omega arith), tt))))
+pub book_from : (v : Vec Entry Global) (n len : ℕ) → vec_len v ≡ len → Ordered (vec_items v) n (room len) → Ordered (vec_items v) n (room (vec_len v))
+book_from v n len e o = record { fits = let f = o.fits in omega arith; rises = o.rises; known = o.known; free = λ k g l. o.free k g (omega arith) }
 
 -- counts are over the capacity, which stays
 wrote_from : (x y : EntryBook) (a s : ℕ) (n : ℤ) → vec_len y.records ≡ vec_len x.records → held_in (items y) (capacity_of x) a s ≡ n → ((b r : ℕ) → (b ≡ a → r ≢ s) → held_in (items y) (capacity_of x) b r ≡ held_at x b r) → Wrote x y a s n

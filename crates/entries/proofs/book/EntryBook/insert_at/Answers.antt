@@ -6,8 +6,9 @@ pub invariant_of-self : goal.invariant_of-self
 invariant_of-self c =
     let x = c.args.self.now in
     let v = c.exchange.new.records in
-    (let all = book_from v _ (vec_len x.records) c.exchange.ensures.len
-    (put_ordered x c.args.k c.capacity-last.result c.args.e c.capacity-last.ensures c.requires.gap c.requires.live c.requires.room (vec_items v) c.exchange.ensures.items) in (all.0, all.1))
+    let o = book_from v _ (vec_len x.records) c.exchange.ensures.len
+    (put_ordered x c.args.k c.capacity-last.result c.args.e c.capacity-last.ensures c.requires.gap c.requires.live c.requires.room (vec_items v) c.exchange.ensures.items) in
+    record { fits = o.fits; rises = o.rises; known = o.known; free = o.free }
 
 pub returns : goal.returns
 returns c =

@@ -7,8 +7,8 @@ use Rattle.entries.specs.Orders.{held_gap}
 use Rattle.entries.specs.Whole.{ordered}
 use Rattle.entries.proofs.book.EntryBook.write.Goals as goal
 
-pub insert-at-requires : goal.insert-at-requires
-insert-at-requires c =
+pub insert_at-requires : goal.insert_at-requires
+insert_at-requires c =
     let x = c.args.self.now in
     let gap = c.in-Err.ensures in
     let on = nonzero_not c.args.held (λ e. c.if-held-ne0.true (ap (of_z w64) e)) in
