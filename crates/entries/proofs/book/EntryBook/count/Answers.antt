@@ -4,8 +4,7 @@ use Rattle.ledger.specs.Actions.{Within}
 use Rattle.entries.specs.declared.book.EntryBook.{EntryBook}
 use Rattle.entries.specs.declared.records.Entry.{Entry}
 use Rattle.entries.specs.Books.{items, held_at, capacity_of}
-use Rattle.entries.specs.Orders.{held_live, held_gap, held_beyond, held_within}
-use Rattle.entries.specs.Whole.{ordered}
+use Rattle.entries.specs.Orders.{held_live, held_gap, held_beyond, held_within, ordered}
 use Rattle.entries.proofs.book.EntryBook.count.Goals as goal
 
 -- a count that the book holds is in reach

@@ -1,4 +1,4 @@
-use Rattle.std.proofs.Common.{◌≡◌, ◌<◌, sym, ◌∙◌, arith}
+use Rattle.std.proofs.Common.{◌≡◌, ◌<◌, ◌∙◌, arith}
 use Rattle.ledger.specs.Listing.{place}
 use Rattle.entries.specs.Records.{nth, place_of}
 use Rattle.entries.specs.Books.{items}

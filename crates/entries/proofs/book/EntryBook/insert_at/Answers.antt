@@ -1,5 +1,5 @@
 use Rattle.std.proofs.Common.{◌-◌, vec_items, vec_len, arith}
-use Rattle.entries.specs.Whole.{book_from, exchange_keeps, put_ordered, put_wrote}
+use Rattle.entries.proofs.Whole.{book_from, exchange_keeps, put_ordered, put_wrote}
 use Rattle.entries.proofs.book.EntryBook.insert_at.Goals as goal
 
 pub invariant_of-self : goal.invariant_of-self

@@ -1,6 +1,6 @@
 use Rattle.std.proofs.Common.{vec_len, refl}
 use Rattle.std.specs.Vec.{with_item}
-use Rattle.entries.specs.Whole.{book_from, over_ordered, over_wrote, over_keeps}
+use Rattle.entries.proofs.Whole.{book_from, over_ordered, over_wrote, over_keeps}
 use Rattle.entries.proofs.book.EntryBook.overwrite_at.Goals as goal
 
 pub invariant_of-self : goal.invariant_of-self

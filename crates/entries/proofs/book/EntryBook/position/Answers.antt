@@ -1,5 +1,4 @@
-use Rattle.std.proofs.Common.{◌≡◌, ◌+◌, ◌-◌, ◌/◌, ⊎_elim, arith}
-use Rattle.std.proofs.lemmas.Bool.{cases_lt}
+use Rattle.std.proofs.Common.{◌+◌, ◌-◌, ◌/◌, arith}
 use Rattle.entries.specs.Books.{items}
 use Rattle.entries.specs.Orders.{rises_to}
 use Rattle.entries.proofs.book.EntryBook.position.Goals as goal

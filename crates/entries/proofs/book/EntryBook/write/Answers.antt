@@ -3,8 +3,7 @@ use Rattle.std.proofs.lemmas.Int.{to_z-of_z}
 use Rattle.ledger.proofs.Counts.{nonzero_not}
 use Rattle.entries.specs.Records.{entry, Live}
 use Rattle.entries.specs.Books.{items, capacity_of}
-use Rattle.entries.specs.Orders.{held_gap}
-use Rattle.entries.specs.Whole.{ordered}
+use Rattle.entries.specs.Orders.{held_gap, ordered}
 use Rattle.entries.proofs.book.EntryBook.write.Goals as goal
 
 pub insert_at-requires : goal.insert_at-requires

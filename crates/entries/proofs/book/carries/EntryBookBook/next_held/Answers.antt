@@ -1,12 +1,11 @@
-use Rattle.std.proofs.Common.{◌≡◌, ◌≤◌, sym, refl, ap, ◌∙◌, subst, ⊎_elim, arith, w64, SFits, rules}
+use Rattle.std.proofs.Common.{◌≡◌, ◌≤◌, sym, ap, ◌∙◌, ⊎_elim, arith, w64, SFits, rules}
 use Rattle.std.proofs.lemmas.Int.{to_z-of_z}
 use Rattle.std.proofs.lemmas.Bool.{cases_lt}
 use Rattle.ledger.proofs.Counts.{not_zero}
 use Rattle.entries.specs.declared.records.Entry.{Entry}
 use Rattle.entries.specs.Records.{nth, place_of}
 use Rattle.entries.specs.Books.{items, capacity_of}
-use Rattle.entries.specs.Orders.{rises_to, held_live, held_missing}
-use Rattle.entries.specs.Whole.{ordered}
+use Rattle.entries.specs.Orders.{rises_to, held_live, held_missing, ordered}
 use Rattle.entries.proofs.book.carries.EntryBookBook.next_held.Goals as goal
 
 pub returns-then-k-self : goal.returns-then-k-self
