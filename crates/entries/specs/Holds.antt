@@ -1,11 +1,10 @@
 -- What records hold of a cell, by the place of its record. Assumes nothing.
-use Rattle.std.specs.Prelude.{◌≡◌, ℕ, zero, suc, ◌+◌, ◌<◌, ◌≤◌, Bool, true, false, cond, ◌&&◌, eqb, ◌⊎◌, List, ℤ, pos, refl}
-use Rattle.std.proofs.Common.{sym, ap, subst, ◌∙◌, inl, inr, ⊎_elim, arith}
+use Rattle.std.specs.Prelude.{◌≡◌, ℕ, zero, suc, ◌<◌, true, ◌⊎◌, List, pos, refl}
+use Rattle.std.proofs.Common.{subst, ◌∙◌, inl, inr, ⊎_elim, arith}
 use Rattle.std.proofs.lemmas.Bool.{cases_Bool, cases_lt, cond-true, cond-false, and_parts, and_from, eqb-true, eq-eqb, both_ways}
-use Rattle.ledger.specs.Actions.{Within, nonzero}
-use Rattle.ledger.specs.Listing.{place}
+use Rattle.ledger.specs.Actions.{nonzero}
 use Rattle.entries.specs.declared.records.Entry.{Entry}
-use Rattle.entries.specs.Records.{entry, nth, place_of, is_of, held_in, Rises, Live, Known, Free}
+use Rattle.entries.specs.Records.{nth, is_of, held_in}
 
 -- e is the record of a cell
 pub record Holds (e : Entry) (a s : ℕ) : Type 0 where

@@ -1,6 +1,6 @@
 -- The order of the held records, and what it says of the counts. Assumes nothing.
-use Rattle.std.specs.Prelude.{◌≡◌, ℕ, zero, suc, ◌+◌, ◌-◌, ◌*◌, ◌/◌, ◌%◌, ◌<◌, ◌≤◌, true, false, ◌⊎◌, List, ℤ, pos, ◌≢◌, refl}
-use Rattle.std.proofs.Common.{sym, ap, subst, ◌∙◌, inl, inr}
+use Rattle.std.specs.Prelude.{◌≡◌, ℕ, zero, suc, ◌-◌, ◌/◌, ◌%◌, ◌<◌, ◌≤◌, true, false, ◌⊎◌, List, pos, ◌≢◌, refl}
+use Rattle.std.proofs.Common.{sym, ap, subst, ◌∙◌}
 use Rattle.std.proofs.Math.Logic.{⊎_elim}
 use native.Mathlib.Omega.{arith}
 use Rattle.std.proofs.lemmas.Int.{ints}
@@ -8,10 +8,12 @@ use Rattle.std.proofs.lemmas.Bool.{cases_lt, cases_eq, cases_order}
 use Rattle.ledger.specs.Actions.{Within, nonzero}
 use Rattle.ledger.specs.Listing.{place}
 use Rattle.ledger.specs.Books.{at_place, held_below, held_cells}
-use Rattle.ledger.proofs.Counts.{one_more, no_more, not_zero, nonzero_not}
+use Rattle.ledger.proofs.Counts.{one_more, no_more, not_zero}
 use Rattle.entries.specs.declared.records.Entry.{Entry}
-use Rattle.entries.specs.Records.{nth, place_of, held_in, Rises, Live, Known, Free, Parts, Gap}
-use Rattle.entries.specs.Holds.{Holds, Found, Missing, held_cases, held_none}
+use Rattle.entries.specs.Records.{nth, place_of, held_in, Rises, Known, Free, Parts, Gap}
+use Rattle.entries.specs.declared.book.EntryBook.{EntryBook}
+use Rattle.entries.specs.Books.{items, capacity_of}
+use Rattle.entries.specs.Holds.{Holds, held_cases, held_none}
 
 -- what rises strictly does not fall
 pub rises_to : (xs : List Entry) (n : ℕ) → Rises xs n → (j k : ℕ) → j ≤ k → k < n → place_of (nth xs j) ≤ place_of (nth xs k)
@@ -154,3 +156,7 @@ module _ (xs : List Entry) (n end : ℕ) (o : Ordered xs n end) where
         before = λ j l. let h = o.known j l in omega (arith, h.0, h.1);
         onward = λ j g l. absurd (omega arith);
       })
+
+-- the records of a book are ordered
+pub ordered : (x : EntryBook) → Ordered (items x) x.live (capacity_of x)
+ordered x = record { fits = x.fits; rises = x.rises; known = x.known; free = x.free }

@@ -1,4 +1,5 @@
 // The entry book: one record for each held cell.
 #![tactic(auto)]
+
 pub mod book;
 pub mod records;

@@ -4,8 +4,7 @@ ghost use Rattle.ledger.specs.Books.{book_meaning};
 ghost use Rattle.entries.specs.Books.{held_at, capacity_of, Keeps, items};
 ghost use Rattle.std.proofs.Common.{arith, rules, inl};
 ghost use Rattle.ledger.proofs.BookFacts.{book_lawful, book_laws};
-ghost use Rattle.entries.specs.Orders.{held_within, held_beyond, held_all};
-ghost use Rattle.entries.specs.Whole.{ordered};
+ghost use Rattle.entries.specs.Orders.{held_within, held_beyond, held_all, ordered};
 
 use super::EntryBook;
 use ledger::books::{Book, Holding};
@@ -24,9 +23,9 @@ impl Ledger for EntryBook {
         (held_within (items x) x.live (capacity_of x) (ordered x))
         (held_beyond (items x) x.live (capacity_of x) (ordered x)) };
 
-    ghost still = { first_of (Prim.search rules, Prim.grind (arith, Self.row.coded.inj)) };
+    ghost still = { Prim.search rules };
 
-    ghost onward = { first_of (Prim.search rules, Prim.grind (arith, Self.row.coded.inj)) };
+    ghost onward = { Prim.search rules };
 
     fn accounts(&self) -> usize {
         WIDTH
@@ -85,7 +84,7 @@ impl Book for EntryBook {
         (λ a s h. held_beyond (items x) x.live (capacity_of x) (ordered x) a s (inl h))
         (omega arith) };
 
-    ghost fixed = { first_of (Prim.search rules, Prim.grind (arith, Self.row.coded.inj)) };
+    ghost fixed = { Prim.search rules };
 
     fn next_held(&self, from: usize) -> Option<Holding> {
         let k = self.position(from);

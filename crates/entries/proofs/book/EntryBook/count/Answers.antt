@@ -4,8 +4,7 @@ use Rattle.ledger.specs.Actions.{Within}
 use Rattle.entries.specs.declared.book.EntryBook.{EntryBook}
 use Rattle.entries.specs.declared.records.Entry.{Entry}
 use Rattle.entries.specs.Books.{items, held_at, capacity_of}
-use Rattle.entries.specs.Orders.{held_live, held_gap, held_beyond, held_within}
-use Rattle.entries.specs.Whole.{ordered}
+use Rattle.entries.specs.Orders.{held_live, held_gap, held_beyond, held_within, ordered}
 use Rattle.entries.proofs.book.EntryBook.count.Goals as goal
 
 -- a count that the book holds is in reach
@@ -21,9 +20,9 @@ returns-then-account-ge-WIDTH c =
 pub returns-in-Ok : goal.returns-in-Ok
 returns-in-Ok c =
     let x = c.args.self.now in
-    let f : SFits w64 c.entry-at.result.held = search rules in
+    let f : SFits w64 c.entry_at.result.held = search rules in
     let h = c.in-Ok.ensures in
-    let k = counted x c.args.account c.args.series _ (to_z-of_z w64 _ f ∙ ap (λ (e : Entry). e.held) c.entry-at.ensures.value ∙ sym (held_live (items x) x.live (capacity_of x) (ordered x) c.in-Ok.k _ _ c.if-series-ge-WIDTH.false h.0 h.1)) in
+    let k = counted x c.args.account c.args.series _ (to_z-of_z w64 _ f ∙ ap (λ (e : Entry). e.held) c.entry_at.ensures.value ∙ sym (held_live (items x) x.live (capacity_of x) (ordered x) c.in-Ok.k _ _ c.if-series-ge-WIDTH.false h.0 h.1)) in
     record { value = k.0; within = k.1 }
 
 pub returns-in-Err : goal.returns-in-Err

@@ -1,4 +1,4 @@
-use Rattle.std.proofs.Common.{◌≡◌, pos, vec_len, sym, ap, subst, arith}
+use Rattle.std.proofs.Common.{pos, sym, subst, arith}
 use Rattle.std.proofs.lemmas.List.{get_or_read}
 use Rattle.entries.specs.Records.{entry, Live}
 use Rattle.entries.specs.Books.{items}

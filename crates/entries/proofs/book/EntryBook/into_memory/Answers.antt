@@ -1,5 +1,5 @@
 use Rattle.std.proofs.Common.{refl}
-use Rattle.entries.specs.Whole.{returned}
+use Rattle.entries.proofs.Whole.{returned}
 use Rattle.entries.proofs.book.EntryBook.into_memory.Goals as goal
 
 pub returns : goal.returns

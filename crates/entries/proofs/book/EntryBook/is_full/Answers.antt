@@ -1,10 +1,9 @@
-use Rattle.std.proofs.Common.{◌≡◌, not, ◌&&◌, eqb, ℤ, pos, sym, ap, ◌∙◌, w64, to_z}
+use Rattle.std.proofs.Common.{◌≡◌, not, ◌&&◌, eqb, pos, sym, ap, ◌∙◌, w64, to_z}
 use Rattle.std.proofs.lemmas.Int.{to_z-of_z}
 use Rattle.ledger.specs.Actions.{nonzero}
 use Rattle.ledger.specs.Books.{held_cells}
 use Rattle.entries.specs.Books.{items, held_at, capacity_of}
-use Rattle.entries.specs.Orders.{held_all}
-use Rattle.entries.specs.Whole.{ordered}
+use Rattle.entries.specs.Orders.{held_all, ordered}
 use Rattle.entries.proofs.book.EntryBook.is_full.Goals as goal
 
 pub returns-then-held-eq0 : goal.returns-then-held-eq0

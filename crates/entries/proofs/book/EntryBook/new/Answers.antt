@@ -1,4 +1,4 @@
-use Rattle.std.proofs.Common.{◌≡◌, ℕ, ◌<◌, ◌≢◌, List, length, set, pos, vec_items, vec_len, sym, ap, ◌∙◌, ⊎_elim, arith, get_or-set_other, get_or-set_same}
+use Rattle.std.proofs.Common.{◌≡◌, ℕ, ◌<◌, ◌≢◌, List, length, set, pos, vec_items, sym, ap, ◌∙◌, ⊎_elim, arith, get_or-set_other, get_or-set_same}
 use Rattle.std.proofs.lemmas.List.{get_or_read}
 use Rattle.std.proofs.lemmas.Bool.{cases_lt}
 use Rattle.ledger.proofs.Counts.{not_zero}
@@ -14,7 +14,7 @@ freed_at ys xs i j e l q is = ap (nth (set ys i e)) q ∙ get_or-set_same ys i e
 pub invariant_of-result : goal.invariant_of-result
 invariant_of-result c =
     let inv = c.loop-k.invariant in
-    (omega arith, (λ j k l m. absurd (omega arith), (λ k l. absurd (omega arith), (λ k g l. ap (λ (y : Entry). y.held) (inv.1 k (omega arith)), tt))))
+    record { fits = omega arith; rises = (λ j k l m. absurd (omega arith)); known = (λ k l. absurd (omega arith)); free = (λ k g l. ap (λ (y : Entry). y.held) (inv.1 k (omega arith))) }
 
 pub loop-k-preserved : goal.loop-k-preserved
 loop-k-preserved c =
@@ -22,7 +22,7 @@ loop-k-preserved c =
     let xs = c.loop-k.records.items in
     let i = c.loop-k.k in
     let long = c.loop-k.records.ok.0 in
-    let now = get_or_read xs i c.index-mut.result.now (omega arith) c.index-mut.ensures.value (entry 0 0 (pos 0)) in (
+    let now = get_or_read xs i c.index_mut.result.now (omega arith) c.index_mut.ensures.value (entry 0 0 (pos 0)) in (
       inv.0,
       λ j l. ⊎_elim
           (λ u. let ne : j ≢ i = omega arith in get_or-set_other xs i j _ _ ne ∙ inv.1 j u)

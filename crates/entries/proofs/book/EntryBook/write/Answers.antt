@@ -3,12 +3,11 @@ use Rattle.std.proofs.lemmas.Int.{to_z-of_z}
 use Rattle.ledger.proofs.Counts.{nonzero_not}
 use Rattle.entries.specs.Records.{entry, Live}
 use Rattle.entries.specs.Books.{items, capacity_of}
-use Rattle.entries.specs.Orders.{held_gap}
-use Rattle.entries.specs.Whole.{ordered}
+use Rattle.entries.specs.Orders.{held_gap, ordered}
 use Rattle.entries.proofs.book.EntryBook.write.Goals as goal
 
-pub insert-at-requires : goal.insert-at-requires
-insert-at-requires c =
+pub insert_at-requires : goal.insert_at-requires
+insert_at-requires c =
     let x = c.args.self.now in
     let gap = c.in-Err.ensures in
     let on = nonzero_not c.args.held (λ e. c.if-held-ne0.true (ap (of_z w64) e)) in

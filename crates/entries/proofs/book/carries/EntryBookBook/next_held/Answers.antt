@@ -1,12 +1,11 @@
-use Rattle.std.proofs.Common.{◌≡◌, ◌≤◌, sym, refl, ap, ◌∙◌, subst, ⊎_elim, arith, w64, SFits, rules}
+use Rattle.std.proofs.Common.{◌≡◌, ◌≤◌, sym, ap, ◌∙◌, ⊎_elim, arith, w64, SFits, rules}
 use Rattle.std.proofs.lemmas.Int.{to_z-of_z}
 use Rattle.std.proofs.lemmas.Bool.{cases_lt}
 use Rattle.ledger.proofs.Counts.{not_zero}
 use Rattle.entries.specs.declared.records.Entry.{Entry}
 use Rattle.entries.specs.Records.{nth, place_of}
 use Rattle.entries.specs.Books.{items, capacity_of}
-use Rattle.entries.specs.Orders.{rises_to, held_live, held_missing}
-use Rattle.entries.specs.Whole.{ordered}
+use Rattle.entries.specs.Orders.{rises_to, held_live, held_missing, ordered}
 use Rattle.entries.proofs.book.carries.EntryBookBook.next_held.Goals as goal
 
 pub returns-then-k-self : goal.returns-then-k-self
@@ -18,10 +17,10 @@ pub returns : goal.returns
 returns c =
     let x = c.args.self.now in
     let k = c.position-k.result in
-    let e = c.entry-at-e.result in
+    let e = c.entry_at-e.result in
     let parts = c.position-k.ensures in
-    let live = c.entry-at-e.ensures.live in
-    let is = c.entry-at-e.ensures.value in
+    let live = c.entry_at-e.ensures.live in
+    let is = c.entry_at-e.ensures.value in
     let below = c.if-k-self.false in
     let at : place_of (nth (items x) k) ≡ place_of e = ap place_of (sym is) in
     let fits : SFits w64 e.held = search rules in

@@ -1,11 +1,11 @@
-use Rattle.std.proofs.Common.{◌≡◌, sym, refl, ap, ◌∙◌, subst, w64, SFits, rules}
+use Rattle.std.proofs.Common.{sym, refl, ap, ◌∙◌, subst, w64, SFits, rules}
 use Rattle.std.proofs.lemmas.Int.{to_z-of_z}
 use Rattle.ledger.specs.declared.cells.Quote.{Quote}
 use Rattle.ledger.specs.Actions.{Within}
 use Rattle.ledger.specs.Books.{book_cell}
 use Rattle.ledger.proofs.BookFacts.{book_ok, filled_after}
 use Rattle.entries.specs.Books.{held_at, capacity_of}
-use Rattle.entries.specs.Whole.{has_room}
+use Rattle.entries.proofs.Whole.{has_room}
 use Rattle.entries.proofs.book.carries.EntryBookLedger.instruct.Goals as goal
 
 pub write-requires : goal.write-requires

@@ -1,10 +1,8 @@
-use Rattle.std.proofs.Common.{◌≡◌, sym, refl, ◌∙◌, ⊎_elim, arith}
+use Rattle.std.proofs.Common.{sym, refl, ◌∙◌, ⊎_elim, arith}
 use Rattle.std.proofs.lemmas.Bool.{cases_lt, eqb-true, eq-eqb}
 use Rattle.ledger.proofs.Counts.{not_zero}
-use Rattle.entries.specs.Records.{nth}
 use Rattle.entries.specs.Books.{items, capacity_of}
-use Rattle.entries.specs.Orders.{held_live, held_missing}
-use Rattle.entries.specs.Whole.{ordered}
+use Rattle.entries.specs.Orders.{held_live, held_missing, ordered}
 use Rattle.entries.proofs.book.carries.EntryBookLedger.unused.Goals as goal
 
 pub returns : goal.returns

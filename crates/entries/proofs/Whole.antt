@@ -1,6 +1,6 @@
 -- The records of a whole book, before and after a write. Assumes nothing.
-use Rattle.std.specs.Prelude.{◌≡◌, ℕ, ◌+◌, ◌-◌, ◌<◌, ◌≤◌, true, false, not, ◌⊎◌, List, ℤ, pos, vec_items, vec_len, vec_capacity, Vec, ◌==◌, ◌≢◌, slice_set, refl}
-use Rattle.std.proofs.Common.{sym, ap, subst, ◌∙◌, inl, inr, ⊎_elim, arith, get_or-set_same, get_or-set_other}
+use Rattle.std.specs.Prelude.{◌≡◌, ℕ, ◌+◌, ◌-◌, ◌<◌, true, not, List, ℤ, pos, vec_items, vec_len, vec_capacity, Vec, ◌==◌, ◌≢◌, slice_set, refl}
+use Rattle.std.proofs.Common.{sym, ap, subst, ◌∙◌, ⊎_elim, arith, get_or-set_same, get_or-set_other}
 use Rattle.std.specs.declared.alloc.Global.{Global}
 use Rattle.std.proofs.lemmas.Bool.{and_cases, cases_lt, eqb-false, not-true, not-false}
 use Rattle.ledger.specs.declared.cells.Instruction.{Instruction}
@@ -9,15 +9,12 @@ use Rattle.ledger.specs.Books.{is_full, held_cells}
 use Rattle.ledger.proofs.Counts.{not_zero, nonzero_not}
 use Rattle.entries.specs.declared.records.Entry.{Entry}
 use Rattle.entries.specs.declared.book.EntryBook.{EntryBook}
-use Rattle.entries.specs.Records.{entry, nth, place_of, room, held_in, Rises, Live, Known, Free, Gap}
+use Rattle.entries.specs.Records.{entry, nth, place_of, room, held_in, Live, Gap}
 use Rattle.entries.specs.Books.{items, held_at, capacity_of, Wrote, Keeps, Returned}
-use Rattle.entries.specs.Holds.{Found, Missing, held_cases}
-use Rattle.entries.specs.Orders.{Ordered, held_all, found_at, holds_below, alone}
-use Rattle.entries.specs.Writes.{Inserted, inserted_ordered, inserted_here, inserted_elsewhere, Removed, removed_ordered, removed_here, removed_elsewhere, Replaced, replaced_ordered, replaced_here, replaced_elsewhere}
-use Rattle.entries.specs.Exchanges.{exchanged, put_in, taken_out, past_both}
-
-pub ordered : (x : EntryBook) → Ordered (items x) x.live (capacity_of x)
-ordered x = record { fits = x.fits; rises = x.rises; known = x.known; free = x.free }
+use Rattle.entries.specs.Holds.{held_cases}
+use Rattle.entries.specs.Orders.{Ordered, ordered, held_all, found_at, holds_below, alone}
+use Rattle.entries.proofs.Writes.{Inserted, inserted_ordered, inserted_here, inserted_elsewhere, Removed, removed_ordered, removed_here, removed_elsewhere, Replaced, replaced_ordered, replaced_here, replaced_elsewhere}
+use Rattle.entries.proofs.Exchanges.{exchanged, put_in, taken_out, past_both}
 
 -- a cell that is not held may become so unless the book is full, and full is as many held records as the capacity
 pub has_room : (x : EntryBook) (i : Instruction) → not (is_full (capacity_of x) (held_at x) i) ≡ true → held_at x i.account i.series ≡ pos 0 → x.live < capacity_of x
@@ -30,8 +27,8 @@ has_room x i open-yet zero =
     (and_cases (not (nonzero (held_at x i.account i.series))) (held_cells (held_at x) == capacity_of x) (not-true _ open-yet))
 
 -- ordered records make a book
-pub book_from : (v : Vec Entry Global) (n len : ℕ) → vec_len v ≡ len → Ordered (vec_items v) n (room len) → (n ≤ room (vec_len v)) × (Rises (vec_items v) n × (Known (vec_items v) n × (Free (vec_items v) n (room (vec_len v)) × Unit {0})))
-book_from v n len e o = (let f = o.fits in omega arith, (o.rises, (o.known, (λ k g l. o.free k g (omega arith), tt))))
+pub book_from : (v : Vec Entry Global) (n len : ℕ) → vec_len v ≡ len → Ordered (vec_items v) n (room len) → Ordered (vec_items v) n (room (vec_len v))
+book_from v n len e o = record { fits = let f = o.fits in omega arith; rises = o.rises; known = o.known; free = λ k g l. o.free k g (omega arith) }
 
 -- counts are over the capacity, which stays
 wrote_from : (x y : EntryBook) (a s : ℕ) (n : ℤ) → vec_len y.records ≡ vec_len x.records → held_in (items y) (capacity_of x) a s ≡ n → ((b r : ℕ) → (b ≡ a → r ≢ s) → held_in (items y) (capacity_of x) b r ≡ held_at x b r) → Wrote x y a s n

@@ -1,11 +1,11 @@
 -- What an exchange of one record for another leaves at each index. Assumes nothing.
-use Rattle.std.specs.Prelude.{◌≡◌, ℕ, ◌+◌, ◌-◌, ◌<◌, ◌≤◌, List, length, ℤ, pos, refl}
-use Rattle.std.proofs.Common.{sym, ap, ◌∙◌, arith}
+use Rattle.std.specs.Prelude.{◌≡◌, ℕ, ◌+◌, ◌-◌, ◌<◌, ◌≤◌, List, length, pos}
+use Rattle.std.proofs.Common.{ap, ◌∙◌, arith}
 use Rattle.std.specs.List.{insert, remove}
 use Rattle.std.proofs.lemmas.List.Edits.{length-remove, get_or-remove_below, get_or-remove_above, get_or-insert_below, get_or-insert_at, get_or-insert_above}
 use Rattle.entries.specs.declared.records.Entry.{Entry}
 use Rattle.entries.specs.Records.{entry, nth}
-use Rattle.entries.specs.Writes.{Inserted, Removed}
+use Rattle.entries.proofs.Writes.{Inserted, Removed}
 
 abbrev blank : Entry
 blank = entry 0 0 (pos 0)

@@ -1,11 +1,10 @@
 -- Records after one is put in, taken out or written over. Assumes nothing.
-use Rattle.std.specs.Prelude.{◌≡◌, ℕ, ◌+◌, ◌-◌, ◌<◌, ◌≤◌, ◌⊎◌, List, ℤ, pos, ◌≢◌, refl}
-use Rattle.std.proofs.Common.{sym, ap, subst, ◌∙◌, inl, inr, ⊎_elim, arith}
+use Rattle.std.specs.Prelude.{◌≡◌, ℕ, ◌+◌, ◌-◌, ◌<◌, ◌≤◌, List, pos, ◌≢◌, refl}
+use Rattle.std.proofs.Common.{sym, ap, subst, ◌∙◌, ⊎_elim, arith}
 use Rattle.std.proofs.lemmas.Bool.{cases_lt, cases_eq, cases_order}
-use Rattle.ledger.specs.Listing.{place}
 use Rattle.entries.specs.declared.records.Entry.{Entry}
-use Rattle.entries.specs.Records.{nth, place_of, held_in, Rises, Live, Known, Free, Gap}
-use Rattle.entries.specs.Holds.{Holds, Found, Missing, held_cases, held_none}
+use Rattle.entries.specs.Records.{nth, place_of, held_in, Rises, Live, Known, Gap}
+use Rattle.entries.specs.Holds.{Holds, held_cases, held_none}
 use Rattle.entries.specs.Orders.{Ordered, found_at, held_live, held_missing, holds_below, alone, place_parts}
 
 -- xs has a record of y, up to an end
