@@ -15,8 +15,8 @@ returns-then-n-eq-MOST-DIGITS c =
 pub loop-b-preserved : goal.loop-b-preserved
 loop-b-preserved c = (
   omega (arith, c.loop-b.invariant.0),
-  omega (arith, c.loop-b.invariant.1, c.if-n-eq-MOST-DIGITS.false),
-  omega (arith, c.loop-b.invariant.2, prefix_len-drop_yes is_ascii_digit _ c.loop-b.b-index 0 c.loop-b-test.true (sym c.is-ascii-digit.ensures.value ∙ c.if-not-is-ascii-digit.false)),
+  omega (arith, c.loop-b.invariant.1, c.if-n-eq-MOST_DIGITS.false),
+  omega (arith, c.loop-b.invariant.2, prefix_len-drop_yes is_ascii_digit _ c.loop-b.b-index 0 c.loop-b-test.true (sym c.is_ascii_digit.ensures.value ∙ c.if-not-is_ascii_digit.false)),
 )
 
 pub returns : goal.returns

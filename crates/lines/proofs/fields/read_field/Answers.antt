@@ -12,4 +12,4 @@ pub returns : goal.returns
 returns c =
     let l : 1 ≤ length c.args.s.now = omega (arith, ltb-true, ltb-false) in
     let e : get_or c.args.s.now 0 0 ≡ 32 = search rules in
-    record { reads = space_read _ _ _ _ _ _ _ (cut_first 32 c.args.s.now l e) c.read-number.ensures.reads; within = search rules }
+    record { reads = space_read _ _ _ _ _ _ _ (cut_first 32 c.args.s.now l e) c.read_number.ensures.reads; within = search rules }

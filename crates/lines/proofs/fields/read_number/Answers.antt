@@ -28,7 +28,7 @@ returns-in-Some c =
     let e : get_or s 0 0 ≡ 45 = search rules in
     let f : SFits w64 z = search rules in
     let p : pos 0 <ℤ z = above z f c.if-n-gt0.true in
-    record { reads = minus_read _ _ _ _ _ _ _ _ _ c.in-Signed.is (cut_first 45 s l e) (negated z f p) p c.in-Some.is c.read-digits-digits.ensures.reads; within = search rules }
+    record { reads = minus_read _ _ _ _ _ _ _ _ _ c.in-Signed.is (cut_first 45 s l e) (negated z f p) p c.in-Some.is c.read_digits-digits.ensures.reads; within = search rules }
 
 not_above : (z : ℤ) → SFits w64 z → lt_z (pos 0) (to_z w64 (of_z w64 z)) ≡ false → z ≤ℤ pos 0
 not_above z f e = grind (arith, ints)

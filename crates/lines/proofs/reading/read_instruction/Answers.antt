@@ -45,9 +45,9 @@ cast_same z n f e = ap (λ x. pos (nat_abs x)) (to_z-of_z w64 z f ∙ e) ∙ sym
 pub returns : goal.returns
 returns c =
     let a = c.args.action in
-    let l : length c.read-field-third.result.rest.now ≡ 0 = search rules in
-    let p = (c.read-field-first.ensures.reads.taken c.in-Some.account c.in-Some.is).2.reads in
-    let q = (c.read-field-second.ensures.reads.taken c.in-Some-number.series c.in-Some-number.is).2.reads in
+    let l : length c.read_field-third.result.rest.now ≡ 0 = search rules in
+    let p = (c.read_field-first.ensures.reads.taken c.in-Some.account c.in-Some.is).2.reads in
+    let q = (c.read_field-second.ensures.reads.taken c.in-Some-number.series c.in-Some-number.is).2.reads in
     let f : SFits w64 c.in-Some.account = search rules in
     let g : SFits w64 c.in-Some-number.series = search rules in
     let h : SFits w64 c.in-Some-number-2.amount = search rules in
@@ -55,6 +55,6 @@ returns c =
     let y = cast_same c.in-Some-number.series q.0 g q.1 in
     let w = to_z-of_z w64 c.in-Some-number-2.amount h in
     instructed _ c.args.s.now (c.in-Some.account ∷ c.in-Some-number.series ∷ c.in-Some-number-2.amount ∷ []) (cc)
-    (parts_behind c.read-field-first.ensures.reads c.in-Some.is (Plain ∷ amount_kind a ∷ []) (c.in-Some-number.series ∷ c.in-Some-number-2.amount ∷ [])
-    (parts_behind c.read-field-second.ensures.reads c.in-Some-number.is (amount_kind a ∷ []) (c.in-Some-number-2.amount ∷ [])
-    (parts_behind (of_kind c.amount-kind.ensures c.read-field-third.ensures.reads) c.in-Some-number-2.is [] [] (nothing_left _ l))))
+    (parts_behind c.read_field-first.ensures.reads c.in-Some.is (Plain ∷ amount_kind a ∷ []) (c.in-Some-number.series ∷ c.in-Some-number-2.amount ∷ [])
+    (parts_behind c.read_field-second.ensures.reads c.in-Some-number.is (amount_kind a ∷ []) (c.in-Some-number-2.amount ∷ [])
+    (parts_behind (of_kind c.amount-kind.ensures c.read_field-third.ensures.reads) c.in-Some-number-2.is [] [] (nothing_left _ l))))
