@@ -7,8 +7,8 @@ use Rattle.lines.proofs.fields.read_digits.Goals as goal
 pub returns-then-n-eq0 : goal.returns-then-n-eq0
 returns-then-n-eq0 c = record { reads = none_read _ _ _ c.number_length-n.ensures c.if-n-eq0.true; within = refl }
 
-pub split-at-requires : goal.split-at-requires
-split-at-requires c = (span_within _ _ c.number-length-n.ensures).0
+pub split_at-requires : goal.split_at-requires
+split_at-requires c = (span_within _ _ c.number_length-n.ensures).0
 
 pub decimal-requires : goal.decimal-requires
 decimal-requires c =

@@ -5,8 +5,8 @@ use Rattle.ledger.specs.Actions.{letter}
 use Rattle.lines.proofs.Whole.{lettered, answered, refused, empty_line, other_letter}
 use Rattle.lines.proofs.reading.read_line.Goals as goal
 
-pub returns-in-default : goal.returns-in-default
-returns-in-default c =
+pub returns-in_default : goal.returns-in_default
+returns-in_default c =
     let l : length c.args.line.now ≡ 0 = omega (arith, ltb-true, ltb-false) in
     answered _ _ (refused _ c.misfit.ensures (empty_line c.args.line.now l))
 
@@ -37,10 +37,10 @@ returns-in-K c = lettered _ c.args.line.now (omega (arith, ltb-true, ltb-false))
 pub returns-in-U : goal.returns-in-U
 returns-in-U c = lettered _ c.args.line.now (omega (arith, ltb-true, ltb-false)) c.in-U.is c.read_instruction-in-U.ensures
 
-pub returns-in-default-2 : goal.returns-in-default-2
-returns-in-default-2 c =
+pub returns-in_default-2 : goal.returns-in_default-2
+returns-in_default-2 c =
     let l : 1 ≤ length c.args.line.now = omega (arith, ltb-true, ltb-false) in
-    answered _ _ (refused _ c.misfit-in-default-2.ensures (other_letter c.args.line.now none l))
+    answered _ _ (refused _ c.misfit-in_default-2.ensures (other_letter c.args.line.now none l))
   where
     none : (a : Action) → get_or c.args.line.now 0 0 ≡ letter a → ⊥
     none Fill e = search rules
