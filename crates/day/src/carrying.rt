@@ -12,14 +12,14 @@ use std::alloc::{AllocError, Global};
 
 // One line, if it is an instruction's.
 fn carry_line<L: Ledger>(ledger: &mut L, line: &[u8]) -> Result<Quote, Fault>
-    ensures { Carries meaning keeps ledger.old line.now result ledger.new }
+    ensures { Carries L.meaning L.keeps ledger.old line.now result ledger.new }
 {
     let i = read_line(line)?;
     ledger.instruct(i)
 }
 
 fn serve_line<L: Ledger>(ledger: &mut L, line: &[u8]) -> OutputLine
-    ensures { Serves meaning keeps ledger.old line.now (buffer result) ledger.new }
+    ensures { Serves L.meaning L.keeps ledger.old line.now (buffer result) ledger.new }
 {
     answer_line(carry_line(ledger, line))
 }
@@ -30,7 +30,7 @@ pub fn carry_lines<L: Ledger>(
     ledger: &mut L,
     lines: &[&[u8]],
 ) -> Result<Vec<OutputLine>, AllocError>
-    ensures made { IfOk result (λ v. Run (Serves meaning keeps) ledger.old (map (λ x. x.now) lines.now) (map buffer v.items) ledger.new) }
+    ensures made { IfOk result (λ v. Run (Serves L.meaning L.keeps) ledger.old (map (λ x. x.now) lines.now) (map buffer v.items) ledger.new) }
     ensures refused { OnErr result (ledger.new ≡ ledger.old) }
 {
     let mut answers = Vec::with_capacity(heap, lines.len())?;

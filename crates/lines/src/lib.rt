@@ -1,5 +1,6 @@
 // The text of lines: instructions in, answers and sheets out.
 #![tactic(auto)]
+
 mod fields;
 pub mod reading;
 #[cfg(test)]

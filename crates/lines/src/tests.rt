@@ -124,29 +124,29 @@ fn written(rt: HostRuntime) {
         low: 1,
         high: 1,
     };
-    assert!(rt; answer_line(Ok(quote)).as_bytes() == b"ok\n");
+    assert!(rt; answer_line(Ok(quote)).as_bytes() == b"ok\n".as_slice());
     let fault = Fault {
         reason: Reason::NotACall,
         depth: 1,
         spot: 0,
     };
-    assert!(rt; answer_line(Err(fault)).as_bytes() == b"no 11 1 0\n");
+    assert!(rt; answer_line(Err(fault)).as_bytes() == b"no 11 1 0\n".as_slice());
     let far = Fault {
         reason: Reason::Line,
         depth: 255,
         spot: 18_446_744_073_709_551_615,
     };
-    assert!(rt; answer_line(Err(far)).as_bytes() == b"no 17 255 18446744073709551615\n");
+    assert!(rt; answer_line(Err(far)).as_bytes() == b"no 17 255 18446744073709551615\n".as_slice());
     let held = Holding {
         account: 0,
         series: 63,
         held: 10,
     };
-    assert!(rt; sheet_line(held).as_bytes() == b"p 0 63 10\n");
+    assert!(rt; sheet_line(held).as_bytes() == b"p 0 63 10\n".as_slice());
     let short = Holding {
         account: 7,
         series: 10,
         held: -9_223_372_036_854_775_808,
     };
-    assert!(rt; sheet_line(short).as_bytes() == b"p 7 10 -9223372036854775808\n");
+    assert!(rt; sheet_line(short).as_bytes() == b"p 7 10 -9223372036854775808\n".as_slice());
 }

@@ -16,14 +16,14 @@ pub loop-line-preserved : goal.loop-line-preserved
 loop-line-preserved g c =
     let R = Serves g.L.Ledger.meaning g.L.Ledger.keeps in
     let x = c.args.ledger.now in
-    let z = c.serve-line.new.ledger in
+    let z = c.serve_line.new.ledger in
     let lines = c.args.lines.now in
     let k = c.loop-line.line-index in
     let inv = c.loop-line.invariant in
-    let pushed = c.push-reserved.ensures in (
+    let pushed = c.push_reserved.ensures in (
       omega arith,
       omega arith,
-      run_next R (λ x. x.now) buffer x c.loop-line.ledger z lines k _ (vec_items c.loop-line.answers) _ c.serve-line.result c.loop-line-test.true inv.2 c.serve-line.ensures pushed.items,
+      run_next R (λ x. x.now) buffer x c.loop-line.ledger z lines k _ (vec_items c.loop-line.answers) _ c.serve_line.result c.loop-line-test.true inv.2 c.serve_line.ensures pushed.items,
     )
 
 pub returns : goal.returns

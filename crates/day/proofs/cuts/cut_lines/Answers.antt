@@ -9,10 +9,10 @@ loop-from-init c = subst (Cutting c.args.text.now 0) (sym (ap (map (λ x. x.now)
 pub loop-from-preserved : goal.loop-from-preserved
 loop-from-preserved c =
     let text = c.args.text.now in
-    let end = c.line-end-end.ensures in
+    let end = c.line_end-end.ensures in
     let from = c.loop-from.from in
     let lines = map (λ x. x.now) (vec_items c.loop-from.lines) in
-    let more = cutting_more text from c.line-end-end.result lines c.loop-from.invariant c.loop-from-test.true end.within.0 end.within.1 end.none end.ends in
+    let more = cutting_more text from c.line_end-end.result lines c.loop-from.invariant c.loop-from-test.true end.within.0 end.within.1 end.none end.ends in
     subst (Cutting text _) (sym (ap (map (λ x. x.now)) c.in_ok-push.ensures.items ∙ map_push (λ x. x.now) (vec_items c.loop-from.lines) _)) more
 
 pub returns : goal.returns

@@ -17,4 +17,4 @@ loop-h-preserved g c =
 pub returns : goal.returns
 returns g c =
     let cell = (g.B.Ledger.meaning c.args.book.now).cell in
-    before_all cell c.loop-h.from (vec_items c.loop-h.all) c.loop-h.invariant (λ a s l h. c.in-default.ensures.first a s l h)
+    before_all cell c.loop-h.from (vec_items c.loop-h.all) c.loop-h.invariant (λ a s l h. c.in_default.ensures.first a s l h)

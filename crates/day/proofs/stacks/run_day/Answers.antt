@@ -13,12 +13,12 @@ pub returns : goal.returns
 returns c =
     let text = c.args.input.now in
     let first = c.in_ok-stack.stack in
-    let last = c.carry-lines.new.ledger in
+    let last = c.carry_lines.new.ledger in
     let lines = map (λ x. x.now) (vec_items c.in_ok-lines.lines) in
     let answers = vec_items c.in_ok-answers.answers in
     let book = c.below-2.ensures ∙ ap (λ (o : OrderLayer GridBook). o.below) c.below.ensures in
-    let run = subst (λ ls. Run (Serves meaning_of Kept) first (map (λ x. x.now) ls) (map buffer answers) last) c.as-slice.ensures.value c.in_ok-answers.ensures.made in
-    made_weaker _ _ c.add-sheet.result
+    let run = subst (λ ls. Run (Serves meaning_of Kept) first (map (λ x. x.now) ls) (map buffer answers) last) c.as_slice.ensures.value c.in_ok-answers.ensures.made in
+    made_weaker _ _ c.add_sheet.result
     (λ v sheet. day_of text first last lines answers (vec_items v) c.in_ok-stack.ensures c.in_ok-lines.ensures run
     (subst (λ (b : GridBook). AddsSheet (grid_meaning b.held).cell answers (vec_items v)) book sheet))
-    c.add-sheet.ensures
+    c.add_sheet.ensures

@@ -10,8 +10,8 @@ returns-in-48 c =
     let e : get_or s 0 0 ≡ 48 = search rules in
     record { zero_alone = λ _. refl; counted = λ h. absurd (h (sym (ap first (cut_first 48 s l e)))) }
 
-pub returns-in-default : goal.returns-in-default
-returns-in-default c =
+pub returns-in_default : goal.returns-in_default
+returns-in_default c =
     let s = c.args.s.now in
     let h : 1 ≤ length s → get_or s 0 0 ≡ 48 → ⊥ = search rules in
-    record { zero_alone = λ e. absurd (not_first 48 s h e); counted = λ _. c.count-digits.ensures }
+    record { zero_alone = λ e. absurd (not_first 48 s h e); counted = λ _. c.count_digits.ensures }

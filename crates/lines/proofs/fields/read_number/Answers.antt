@@ -4,15 +4,15 @@ use Rattle.std.proofs.lemmas.Int.{ints}
 use Rattle.lines.proofs.Digits.{cut_first, not_first}
 use Rattle.lines.proofs.Numbers.{plain_read, unsigned_read, minus_read, minus_none}
 use Rattle.lines.proofs.fields.read_number.Goals as goal
-use Rattle.lines.proofs.fields.read_number.Goals.{in-default-number-via-in-Some+else-n-gt0, in-default-number-via-in-None·}
+use Rattle.lines.proofs.fields.read_number.Goals.{in_default-number-via-in-Some+else-n-gt0, in_default-number-via-in_default-number}
 
-pub returns-in-default : goal.returns-in-default
-returns-in-default c = record { reads = plain_read _ _ _ _ _ _ c.in-default.is c.read-digits.ensures.reads; within = search rules }
+pub returns-in_default : goal.returns-in_default
+returns-in_default c = record { reads = plain_read _ _ _ _ _ _ c.in_default.is c.read_digits.ensures.reads; within = search rules }
 
-pub returns-in-default-s : goal.returns-in-default-s
-returns-in-default-s c =
+pub returns-in_default-s : goal.returns-in_default-s
+returns-in_default-s c =
     let h : 1 ≤ length c.args.s.now → get_or c.args.s.now 0 0 ≡ 45 → ⊥ = search rules in
-    record { reads = unsigned_read _ _ _ _ _ _ c.in-Signed.is (not_first 45 c.args.s.now h) c.read-digits-in-default-s.ensures.reads; within = search rules }
+    record { reads = unsigned_read _ _ _ _ _ _ c.in-Signed.is (not_first 45 c.args.s.now h) c.read_digits-in_default-s.ensures.reads; within = search rules }
 
 above : (z : ℤ) → SFits w64 z → lt_z (pos 0) (to_z w64 (of_z w64 z)) ≡ true → pos 0 <ℤ z
 above z f e = grind (arith, ints)
@@ -28,18 +28,18 @@ returns-in-Some c =
     let e : get_or s 0 0 ≡ 45 = search rules in
     let f : SFits w64 z = search rules in
     let p : pos 0 <ℤ z = above z f c.if-n-gt0.true in
-    record { reads = minus_read _ _ _ _ _ _ _ _ _ c.in-Signed.is (cut_first 45 s l e) (negated z f p) p c.in-Some.is c.read-digits-digits.ensures.reads; within = search rules }
+    record { reads = minus_read _ _ _ _ _ _ _ _ _ c.in-Signed.is (cut_first 45 s l e) (negated z f p) p c.in-Some.is c.read_digits-digits.ensures.reads; within = search rules }
 
 not_above : (z : ℤ) → SFits w64 z → lt_z (pos 0) (to_z w64 (of_z w64 z)) ≡ false → z ≤ℤ pos 0
 not_above z f e = grind (arith, ints)
 
-pub returns-in-default-number : goal.returns-in-default-number
-returns-in-default-number c =
+pub returns-in_default-number : goal.returns-in_default-number
+returns-in_default-number c =
     let s = c.args.s.now in
     let l : 1 ≤ length s = omega (arith, ltb-true, ltb-false) in
     let e : get_or s 0 0 ≡ 45 = search rules in
-    let h : (z : ℤ) → c.read-digits-digits.result.number ≡ Some z → z ≤ℤ pos 0 = elim c.in-default-number.branch [
-      | in-default-number-via-in-Some+else-n-gt0 w ↦ λ z q. let f : SFits w64 w.in-Some.n = search rules in let y = w.in-Some.is in let x : w.in-Some.n ≡ z = cc in subst (λ a. a ≤ℤ pos 0) x (not_above w.in-Some.n f w.if-n-gt0.false)
-      | in-default-number-via-in-None· w ↦ search rules
+    let h : (z : ℤ) → c.read_digits-digits.result.number ≡ Some z → z ≤ℤ pos 0 = elim c.in_default-number.branch [
+      | in_default-number-via-in-Some+else-n-gt0 w ↦ λ z q. let f : SFits w64 w.in-Some.n = search rules in let y = w.in-Some.is in let x : w.in-Some.n ≡ z = cc in subst (λ a. a ≤ℤ pos 0) x (not_above w.in-Some.n f w.if-n-gt0.false)
+      | in_default-number-via-in_default-number w ↦ search rules
     ] in
-    record { reads = minus_none _ _ _ _ _ _ _ _ c.in-Signed.is (cut_first 45 s l e) h c.read-digits-digits.ensures.reads; within = search rules }
+    record { reads = minus_none _ _ _ _ _ _ _ _ c.in-Signed.is (cut_first 45 s l e) h c.read_digits-digits.ensures.reads; within = search rules }

@@ -44,5 +44,5 @@ returns-in-Err c =
       text,
       subst (λ r. AnswerText r text) (sym c.in-Err.is)
           (decimal a, decimal b, decimal s, refl, subst (λ n. Decimal n (decimal a)) (c.from-reason.ensures ∙ c.number.ensures) (decimal_is a f), subst (λ n. Decimal n (decimal b)) c.from-depth.ensures (decimal_is b g), decimal_is s h),
-      c.finish-in-Err.ensures _ (c.field-in-Err-2.ensures.holds _ (c.field-in-Err.ensures.holds _ (c.field.ensures.holds _ (c.text_in-Err.ensures.holds [] c.new-in-Err.ensures)))),
+      c.finish-in-Err.ensures _ (c.field-in-Err-2.ensures.holds _ (c.field-in-Err.ensures.holds _ (c.field.ensures.holds _ (c.text-in-Err.ensures.holds [] c.new-in-Err.ensures)))),
     )

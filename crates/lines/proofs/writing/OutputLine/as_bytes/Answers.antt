@@ -6,7 +6,7 @@ use Rattle.lines.proofs.writing.OutputLine.as_bytes.Goals as goal
 pub returns : goal.returns
 returns c =
     let s = c.args.self.now.bytes in
-    let n = c.line-length-n.result in
+    let n = c.line_length-n.result in
     let z : n - 0 ≡ n = omega arith in
-    let e : take (n - 0) s ≡ printed s = ap (λ m. take m s) (z ∙ c.line-length-n.ensures) ∙ take_least _ s in
+    let e : take (n - 0) s ≡ printed s = ap (λ m. take m s) (z ∙ c.line_length-n.ensures) ∙ take_least _ s in
     record { part = e; line = λ text f. e ∙ printed_filled text s f }
