@@ -1,5 +1,6 @@
 // The cover layer: assets set aside for the delivery of calls, above any ledger.
 #![tactic(auto)]
+
 ghost use Rattle.std.specs.Prelude.{◌≡◌, IfOk, IfErr};
 ghost use Rattle.tables.specs.Tables.{AllZero};
 ghost use Rattle.cover.specs.Covering.{Covered};

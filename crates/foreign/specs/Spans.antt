@@ -1,5 +1,5 @@
 -- A layer whose range always has 0 in it. Assumes nothing.
-use Rattle.std.specs.Prelude.{ℕ, ℤ, pos, Some, Ok}
+use Rattle.std.specs.Prelude.{pos, Some, Ok}
 use Rattle.std.specs.Int.{int_max, int_min}
 use Rattle.ledger.specs.declared.cells.Cell.{Cell}
 use Rattle.ledger.specs.declared.cells.Quote.{Quote}

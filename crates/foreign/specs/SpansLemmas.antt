@@ -1,6 +1,6 @@
 -- The laws of the layer, from those of the ledger below. Assumes nothing.
-use Rattle.std.specs.Prelude.{◌≡◌, ℕ, ℤ, pos, ◌+ℤ◌, ◌-ℤ◌, ◌≤ℤ◌, Some, Ok, Err, refl}
-use Rattle.std.proofs.Common.{sym, ap, subst, ◌∙◌, arith}
+use Rattle.std.specs.Prelude.{◌≡◌, ℤ, pos, Some, Ok}
+use Rattle.std.proofs.Common.{sym, ap, subst, arith}
 use Rattle.std.specs.Int.{int_max, int_min}
 use Rattle.std.proofs.lemmas.Int.{ints, clamps}
 use Rattle.ledger.specs.declared.actions.Action.{Action}
@@ -8,10 +8,10 @@ use Rattle.ledger.specs.declared.actions.Action.TheVariants.{Fill, PlaceBuy, Pla
 use Rattle.ledger.specs.declared.cells.Cell.{Cell}
 use Rattle.ledger.specs.declared.cells.Quote.{Quote}
 use Rattle.ledger.specs.declared.cells.Instruction.{Instruction}
-use Rattle.ledger.specs.Checks.{Answer, checked, Checked, ◌then◌}
-use Rattle.ledger.specs.Cells.{Ranged, Toward, Shifts, Releases, Moves, Quotes}
+use Rattle.ledger.specs.Checks.{checked, ◌then◌}
+use Rattle.ledger.specs.Cells.{Ranged, Toward, Releases, Moves, Quotes}
 use Rattle.ledger.specs.Meanings.{Meaning, Lawful}
-use Rattle.ledger.specs.Layers.{raised, asked}
+use Rattle.ledger.specs.Layers.{asked}
 use Rattle.ledger.proofs.Chains.{then_ok, then_err}
 use Rattle.ledger.proofs.Below.{raised_ok}
 use Rattle.foreign.specs.Spans.{spanned, span_cell, span_meaning}

@@ -1,6 +1,7 @@
 // A layer of another maker, for tests alone: it counts a position's close-out as possible, so its range always has 0
 // in it. It knows no more of the ledger below than the interface says.
 #![tactic(auto)]
+
 ghost use Rattle.std.specs.Prelude.{◌≡◌, ℕ};
 ghost use Rattle.foreign.specs.Spans.{spanned, span_meaning};
 ghost use Rattle.foreign.specs.SpansLemmas.{span_lawful};

@@ -1,10 +1,10 @@
 -- A grid book is never full, and its laws. Assumes nothing.
-use Rattle.std.specs.Prelude.{◌≡◌, ℕ, ◌+◌, ◌*◌, ◌/◌, ◌%◌, ◌<◌, ◌≤◌, Bool, true, false, cond, not, ◌&&◌, ◌⊎◌, ℤ, pos, ◌==◌, refl}
-use Rattle.std.proofs.Common.{sym, ap, subst, ◌∙◌, inl, inr, ⊎_elim, arith}
+use Rattle.std.specs.Prelude.{◌≡◌, ℕ, ◌+◌, ◌*◌, ◌/◌, ◌%◌, ◌<◌, ◌≤◌, Bool, true, false, not, ◌&&◌, ◌⊎◌, pos, ◌==◌, refl}
+use Rattle.std.proofs.Common.{ap, ◌∙◌, inl, inr, ⊎_elim, arith}
 use Rattle.std.proofs.lemmas.Bool.{cases_Bool, eqb-true}
 use Rattle.ledger.specs.declared.cells.Instruction.{Instruction}
 use Rattle.ledger.specs.Actions.{Within, nonzero}
-use Rattle.ledger.specs.Meanings.{Meaning, Lawful}
+use Rattle.ledger.specs.Meanings.{Lawful}
 use Rattle.ledger.specs.Books.{at_place, held_below, held_cells, is_full, BookLaws}
 use Rattle.ledger.proofs.Counts.{zero_from, held_most, held_fewer, held_same}
 use Rattle.ledger.proofs.BookFacts.{book_lawful, book_laws}

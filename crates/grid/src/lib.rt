@@ -1,5 +1,6 @@
 // The grid book: one number for every cell.
 #![tactic(auto)]
+
 ghost use Rattle.std.specs.Prelude.{◌≡◌, ℕ, ◌<◌, pos, slice_index_or};
 ghost use Rattle.ledger.specs.Actions.{Within};
 ghost use Rattle.ledger.specs.Listing.{place};

@@ -1,5 +1,6 @@
 // The order layer: buys and sells that rest above any ledger.
 #![tactic(auto)]
+
 ghost use Rattle.std.specs.Prelude.{◌≡◌, IfOk, IfErr};
 ghost use Rattle.tables.specs.Tables.{AllZero};
 ghost use Rattle.orders.specs.Resting.{order_meaning, Plain, Resting};
@@ -24,7 +25,7 @@ impl<L: Ledger> OrderLayer<L> {
     // Nothing rests, and the ledger below is as it was. For want of memory, hands it back.
     pub fn new(below: L, heap: Global) -> Result<OrderLayer<L>, AllocFailed<L>>
         ensures empty { IfOk result (λ x. (x.below ≡ below) × AllZero x.buys × AllZero x.sells) }
-        ensures plain { IfOk result (λ x. Plain (meaning x.below) (order_meaning (meaning x.below) x.buys x.sells)) }
+        ensures plain { IfOk result (λ x. Plain (L.Ledger.meaning x.below) (order_meaning (L.Ledger.meaning x.below) x.buys x.sells)) }
         ensures refused { IfErr result (λ y. y.value ≡ below) }
     {
         let Ok(buys) = Table::new(heap) else {

@@ -1,4 +1,4 @@
-use Rattle.std.proofs.Common.{◌≡◌, sym, ap, ◌∙◌, subst}
+use Rattle.std.proofs.Common.{sym, ap, ◌∙◌, subst}
 use Rattle.ledger.specs.declared.cells.Quote.{Quote}
 use Rattle.ledger.specs.Cells.{after}
 use Rattle.ledger.specs.Meanings.{Left}

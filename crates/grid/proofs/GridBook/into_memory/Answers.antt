@@ -8,6 +8,6 @@ pub returns : goal.returns
 returns c =
     let t = c.args.self.held in
     record {
-      whole = c.into-memory.ensures;
-      counts = λ a s p q. ap (λ xs. get_or xs (place a s) (pos 0)) c.into-memory.ensures ∙ sym (number_in (items t) (rows_of t) a s q p);
+      whole = c.into_memory.ensures;
+      counts = λ a s p q. ap (λ xs. get_or xs (place a s) (pos 0)) c.into_memory.ensures ∙ sym (number_in (items t) (rows_of t) a s q p);
     }

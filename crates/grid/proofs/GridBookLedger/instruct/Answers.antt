@@ -1,4 +1,4 @@
-use Rattle.std.proofs.Common.{◌≡◌, sym, ap, ◌∙◌, subst, w64, SFits, rules}
+use Rattle.std.proofs.Common.{sym, ap, ◌∙◌, subst, w64, SFits, rules}
 use Rattle.ledger.specs.declared.cells.Quote.{Quote}
 use Rattle.ledger.specs.Actions.{Within}
 use Rattle.ledger.specs.Books.{book_cell}
@@ -14,7 +14,7 @@ invariant_of-self c =
     let q = c.in_ok-quote.quote in
     let f = book_ok (rows_of t) (grid_capacity t) (at t) c.args.i q (sym c.in_ok-quote.ensures) in
     let s : SFits w64 q.held = search rules in
-    (wrote_all Within _ _ _ _ _ (wrote_fits q.held s c.put.ensures) f.checks.series f.checks.account (subst (λ (r : Quote). Within r.held) (sym f.is) f.reach) c.args.self.now.near, tt)
+    record { near = wrote_all Within _ _ _ _ _ (wrote_fits q.held s c.put.ensures) f.checks.series f.checks.account (subst (λ (r : Quote). Within r.held) (sym f.is) f.reach) c.args.self.now.near }
 
 pub returns : goal.returns
 returns c =

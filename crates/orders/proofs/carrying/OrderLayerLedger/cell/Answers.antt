@@ -11,7 +11,7 @@ use Rattle.orders.proofs.carrying.OrderLayerLedger.cell.Goals as goal
 
 pub returns : goal.returns
 returns g c =
-    let d = c.read-below-below.result in
+    let d = c.read_below-below.result in
     let r = c.rests-rests.result in
     let w = c.widened-wide.result in
     let f1 : SFits w64 d.held = search rules in
@@ -29,7 +29,7 @@ returns g c =
     let wide : w ≡ widened (standing d) r.buys r.sells = simp to_z-of_z at c.widened-wide.ensures in
     let x = c.args.self.now in
     let under = (g.L.Ledger.meaning x.below).cell c.args.account c.args.series in
-    let e : d ≡ under = c.read-below-below.ensures.value in
+    let e : d ≡ under = c.read_below-below.ensures.value in
     let b = c.rests-rests.ensures.buys.0 in
     let s = c.rests-rests.ensures.sells.0 in
     let low_is : c.max.result ≡ low_of under.low (at x.sells c.args.account c.args.series) =
