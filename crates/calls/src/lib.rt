@@ -1,5 +1,6 @@
 // What a limiter is asked, and what it replies.
 #![tactic(auto)]
+
 use expiry::quantity::Quantities;
 use expiry::side::Side;
 use greatest::headrooms::Headroom;

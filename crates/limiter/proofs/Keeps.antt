@@ -1,6 +1,5 @@
 -- What every call keeps, and that each answer is due. Assumes the laws of the ledger.
-use Rattle.std.proofs.Common.{◌≡◌, ℕ, ◌*◌, ◌<◌, ◌≤◌, Bool, true, false, cond, not, ◌&&◌, eqb, ltb, leb, ◌⊎◌, List, [], ◌∷◌, ◌++◌, length, ℤ, pos, ◌+ℤ◌, ◌≤ℤ◌, ◌<ℤ◌, is_some, Some, None, Ok, Err, Decides, Option, Result, sym, refl, ap, ◌∙◌, subst, inl, inr, arith, ltb-true, lt-ltb}
-use lib.Signed.{le_z}
+use Rattle.std.proofs.Common.{◌≡◌, ℕ, ◌*◌, ◌<◌, Bool, true, false, cond, ◌&&◌, eqb, ltb, ◌⊎◌, List, length, ℤ, pos, ◌+ℤ◌, ◌≤ℤ◌, ◌<ℤ◌, is_some, Some, None, Ok, Err, Decides, Option, Result, sym, refl, ap, ◌∙◌, subst, inl, inr, arith, lt-ltb}
 use Rattle.std.proofs.lemmas.Bool.Decides.{eqb_tells}
 use Rattle.std.proofs.lemmas.Bool.{eqb-true, and_from, and_parts}
 use Rattle.std.proofs.lemmas.Int.{ints}
@@ -10,14 +9,13 @@ use Rattle.ledger.specs.declared.cells.Quote.{Quote}
 use Rattle.ledger.specs.declared.faults.Fault.{Fault}
 use Rattle.ledger.specs.declared.faults.Reason.TheVariants as reason
 use Rattle.ledger.specs.Actions.{proper}
-use Rattle.ledger.specs.Cells.{empty, Quotes, Obeyed}
+use Rattle.ledger.specs.Cells.{empty, Obeyed}
 use Rattle.ledger.specs.Checks.{checked}
 use Rattle.ledger.specs.Faults.{found}
 use Rattle.ledger.specs.Meanings.{Meaning, Lawful, Instructed, Left}
 use Rattle.strikes.specs.declared.strike.Strike.{Strike}
 use Rattle.expiry.specs.declared.side.Side.{Side}
 use Rattle.expiry.specs.declared.side.Side.TheVariants.{Long, Short}
-use Rattle.expiry.specs.Quantities.{flow, price_at}
 use Rattle.expiry.specs.Sides.{side_number, side_at}
 use Rattle.parties.specs.declared.entry.Entry.{Entry}
 use Rattle.parties.specs.declared.level.Level.{Level}
@@ -34,10 +32,10 @@ use Rattle.limiter.specs.declared.change.Change.{Change}
 use Rattle.limiter.specs.declared.phase.Phase.{Phase}
 use Rattle.limiter.specs.declared.phase.Phase.TheVariants.{Setup, Started}
 use Rattle.limiter.specs.States.{State, fresh}
-use Rattle.limiter.specs.Positions.{Counts, positions, lows, highs, change, quantity_of}
-use Rattle.limiter.specs.Verdicts.{Verdict, require, ◌before◌, allowed, known_cell, known_side, own_verdict, found_at, side_verdict, level_verdict, party_verdict, path_verdict, quote_verdict, instruct_verdict, verdict}
+use Rattle.limiter.specs.Positions.{Counts, positions, change, quantity_of}
+use Rattle.limiter.specs.Verdicts.{Verdict, require, ◌before◌, allowed, known_side, own_verdict, found_at, side_verdict, level_verdict, path_verdict, quote_verdict, instruct_verdict, verdict}
 use Rattle.limiter.specs.Steps.{Answer, Replies, Moved, obeyed, Follows, Step}
-use Rattle.limiter.specs.Promise.{releases, Within, carried, Sound, Passes, PassesOn, Bounded, Limited, Due, Rightly, Served}
+use Rattle.limiter.specs.Promise.{releases, Within, carried, Sound, Passes, Bounded, Limited, Due, Rightly, Served}
 use Rattle.limiter.proofs.Quantities.{covered, met, quantity_narrower, quantity_same, quantity_none}
 use Rattle.limiter.proofs.Verdicts.{ok_err, false_true, both_pass, pass_both, require_true, lez_true, allowed_passes, allowed_refuses, allowed_lesser, within_zero, sides_pass, side_refuses, levels_pass, level_refuses, pass_levels}
 use Rattle.limiter.proofs.Cells.{after_ordered, narrower, elsewhere, left_ranges, left_held, released}

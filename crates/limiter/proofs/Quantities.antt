@@ -1,5 +1,5 @@
 -- A party's net receipt and its quantities. Assumes nothing.
-use Rattle.std.proofs.Common.{◌≡◌, ℕ, zero, suc, ◌+◌, ◌*◌, ◌%◌, ◌<◌, Bool, true, false, cond, eqb, ◌⊎◌, List, [], ◌∷◌, map, length, get_or, ℤ, pos, ◌+ℤ◌, ◌≤ℤ◌, sym, refl, ap, ◌∙◌, subst, inl, inr, arith}
+use Rattle.std.proofs.Common.{◌≡◌, ℕ, suc, ◌*◌, ◌%◌, ◌<◌, Bool, true, false, cond, eqb, ◌⊎◌, List, [], ◌∷◌, map, length, get_or, ℤ, pos, ◌≤ℤ◌, sym, refl, ap, ◌∙◌, subst, inl, inr, arith}
 use lib.ListN.{length-map}
 use lib.Signed.{lt_z, ≤ℤ_refl}
 use Rattle.std.specs.Int.{int_max}
@@ -18,7 +18,7 @@ use Rattle.expiry.proofs.Exact.{flow_at, quantity_covers}
 use Rattle.parties.specs.declared.entry.Entry.{Entry}
 use Rattle.parties.specs.declared.level.Level.{Level}
 use Rattle.parties.specs.Directories.{belongs}
-use Rattle.limiter.specs.Positions.{Counts, Positions, summed, net_receipt, Possible, Covered, MetBy, ZeroOrMet, quantity_of}
+use Rattle.limiter.specs.Positions.{Counts, Positions, summed, net_receipt, Possible, Covered, ZeroOrMet, quantity_of}
 
 -- the greatest of 0 and a list is 0 or in the list
 most_met : (xs : List ℤ) → (most xs ≡ pos 0) ⊎ ((j : ℕ) × (j < length xs) × (get_or xs j (pos 0) ≡ most xs))

@@ -7,7 +7,7 @@ use Rattle.strikes.proofs.Adds.{lawful_from}
 use Rattle.expiry.specs.declared.side.Side.{Side}
 use Rattle.expiry.specs.declared.side.Side.TheVariants.{Long, Short}
 use Rattle.parties.specs.declared.level.Level.{Level}
-use Rattle.parties.specs.Directories.{party, entries_of}
+use Rattle.parties.specs.Directories.{entries_of}
 use Rattle.parties.specs.Limits.{place, limits_of, side_of}
 use Rattle.parties.specs.Tables.{limiting, proper, record_at}
 use Rattle.parties.proofs.Enrolling.{party_take, party_below}

@@ -1,5 +1,5 @@
 -- What the code found, put together to what is defined. Assumes nothing.
-use Rattle.std.proofs.Common.{◌≡◌, ℕ, zero, suc, ◌*◌, ◌/◌, ◌%◌, ◌<◌, ◌≤◌, Bool, true, false, cond, ◌&&◌, ltb, leb, List, [], ◌∷◌, length, get_or, ℤ, pos, neg_ℤ, ◌≤ℤ◌, IfOk, Some, None, Ok, Err, Option, Result, sym, refl, ap, ◌∙◌, subst, arith, w64, to_z, of_z, ltb-true, lt-ltb}
+use Rattle.std.proofs.Common.{◌≡◌, ℕ, zero, suc, ◌*◌, ◌/◌, ◌%◌, ◌<◌, ◌≤◌, Bool, true, false, cond, ◌&&◌, ltb, leb, List, length, get_or, ℤ, pos, neg_ℤ, ◌≤ℤ◌, IfOk, Some, None, Ok, Err, Option, Result, sym, refl, ap, ◌∙◌, subst, arith, w64, to_z, of_z, ltb-true, lt-ltb}
 use lib.Signed.{le_z}
 use Rattle.std.proofs.lemmas.Int.{ints}
 use Rattle.std.proofs.lemmas.Bool.{and_parts}
@@ -7,7 +7,6 @@ use Rattle.expiry.specs.Near.{Near}
 use Rattle.expiry.proofs.Bounds.{near_back}
 use Rattle.limiter.proofs.Verdicts.{both_pass, require_true, lez_true}
 use Rattle.std.specs.declared.cmp.Reverse.{Reverse}
-use Rattle.std.specs.Cmp.{opposite}
 use Rattle.ledger.specs.declared.cells.Instruction.{Instruction}
 use Rattle.ledger.specs.declared.cells.Quote.{Quote}
 use Rattle.ledger.specs.declared.faults.Fault.{Fault}
@@ -20,32 +19,30 @@ use Rattle.ledger.specs.Meanings.{Meaning}
 use Rattle.greatest.specs.declared.Peak.{Peak}
 use Rattle.greatest.specs.declared.headrooms.Headroom.{Headroom}
 use Rattle.greatest.specs.Greatest.{Stands}
-use Rattle.greatest.specs.Headrooms.{headrooms}
+use Rattle.greatest.specs.Headrooms.{rank, opposite}
 use Rattle.expiry.specs.declared.side.Side.{Side}
 use Rattle.expiry.specs.declared.side.Side.TheVariants.{Long, Short}
 use Rattle.expiry.specs.declared.quantity.Quantity.{Quantity}
 use Rattle.expiry.specs.declared.quantity.Quantities.{Quantities}
 use Rattle.expiry.specs.Sides.{side_at, side_number, side_of_number}
 use Rattle.parties.specs.declared.level.Level.{Level}
-use Rattle.parties.specs.declared.level.Level.TheVariants.{Account, Holder, Group, Participant}
 use Rattle.parties.specs.Levels.{level_at, level_number, level_of_number}
 use Rattle.parties.specs.Directories.{party}
 use Rattle.parties.specs.declared.Limits.{Limits}
-use Rattle.parties.specs.Limits.{Limiting, with_limit, limits_of, settable, Set}
+use Rattle.parties.specs.Limits.{with_limit, limits_of, settable, Set}
 use Rattle.parties.proofs.Records.{settable_ok}
 use Rattle.parties.specs.Tables.{limiting}
 use Rattle.calls.specs.declared.NewLimit.{NewLimit}
 use Rattle.calls.specs.declared.PartyNumber.{PartyNumber}
 use Rattle.calls.specs.declared.Call.{Call}
 use Rattle.calls.specs.declared.Call.TheVariants as call
-use Rattle.calls.specs.declared.Reply.{Reply}
 use Rattle.calls.specs.declared.Reply.TheVariants as reply
 use Rattle.limiter.specs.declared.change.Change.{Change}
 use Rattle.limiter.specs.States.{State}
 use Rattle.limiter.specs.Sums.{side_part}
 use Rattle.limiter.specs.Positions.{change, positions, quantity_of, Told}
-use Rattle.limiter.specs.Verdicts.{Verdict, require, ◌before◌, allowed, both_allowed, party_verdict, level_verdict, path_verdict, quote_verdict, own_verdict, instruct_verdict, known_party, known_side, quantities_verdict, limit_verdict, found_at, verdict}
-use Rattle.limiter.specs.Steps.{headroom, headroom_at, by_check, path_headrooms, Least, Follows, Moved, obeyed, Replies, Step}
+use Rattle.limiter.specs.Verdicts.{Verdict, require, ◌before◌, allowed, both_allowed, party_verdict, level_verdict, path_verdict, quote_verdict, own_verdict, instruct_verdict, known_side, quantities_verdict, limit_verdict, found_at}
+use Rattle.limiter.specs.Steps.{headroom, headroom_at, by_check, path_headrooms, Least, Follows}
 use Rattle.limiter.specs.Steps.{Answer as LimiterAnswer}
 
 pub made_weaker : {A B : Type 0} {P Q : A → Type 0} (r : Result A B) → ((x : A) → P x → Q x) → IfOk r P → IfOk r Q
@@ -105,11 +102,11 @@ module _ {X : Type 0} (meaning : X → Meaning) (s : State X) where
   headroom_is a level side p limit q h pe le t e =
       e ∙ (λ i. headroom (le i) (t.value i)) ∙ ap (λ z. headroom (s.limits level z side) (quantity_of (positions meaning s None) level z side)) pe
 
-  pub least_is : (a : ℕ) (list : List (Reverse Headroom)) (d : Reverse Headroom) (peak : Peak) (l : Level) (side : Side) → list ≡ path_headrooms meaning s a → Stands (opposite headrooms) list peak → l ≡ level_at (peak.first / 2) → side ≡ side_at (peak.first % 2)
+  pub least_is : (a : ℕ) (list : List (Reverse Headroom)) (d : Reverse Headroom) (peak : Peak) (l : Level) (side : Side) → list ≡ path_headrooms meaning s a → Stands (opposite rank) list peak → l ≡ level_at (peak.first / 2) → side ≡ side_at (peak.first % 2)
       → Least meaning s a (record { level = l; side = side; headroom = (get_or list peak.first d).0 })
   least_is a list d peak l side e st le se = record {
     check = peak.first;
-    stands = subst (λ (z : List (Reverse Headroom)). Stands (opposite headrooms) z peak) e st;
+    stands = subst (λ (z : List (Reverse Headroom)). Stands (opposite rank) z peak) e st;
     level = le;
     side = se;
     headroom =

@@ -1,14 +1,12 @@
 -- What one call answers and leaves. Assumes nothing.
 use Rattle.std.specs.Prelude.{◌≡◌, ℕ, ◌/◌, ◌%◌, Bool, List, [], ◌∷◌, ◌++◌, ℤ, ◌-ℤ◌, Some, None, Ok, Err, Decides, Option, Result}
 use Rattle.std.specs.declared.cmp.Reverse.{Reverse}
-use Rattle.std.specs.Cmp.{opposite}
 use Rattle.ledger.specs.declared.faults.Fault.{Fault}
 use Rattle.ledger.specs.Meanings.{Meaning, Instructed}
-use Rattle.greatest.specs.declared.Peak.{Peak}
 use Rattle.greatest.specs.declared.headrooms.Headroom.{Headroom}
 use Rattle.greatest.specs.declared.headrooms.Headroom.TheVariants.{Missing, Left}
 use Rattle.greatest.specs.Greatest.{Stands}
-use Rattle.greatest.specs.Headrooms.{headrooms}
+use Rattle.greatest.specs.Headrooms.{rank, opposite}
 use Rattle.expiry.specs.declared.side.Side.{Side}
 use Rattle.expiry.specs.declared.side.Side.TheVariants.{Long, Short}
 use Rattle.expiry.specs.declared.quantity.Quantities.{Quantities}
@@ -61,7 +59,7 @@ module _ {X : Type 0} (meaning : X → Meaning) where
   -- the first least headroom on account a's path, where the check k is at level k / 2 and side k % 2
   pub record Least (s : State X) (a : ℕ) (t : Tightest) : Type 0 where
     pub check : ℕ
-    pub stands : Stands (opposite headrooms) (path_headrooms s a) (record { first = check })
+    pub stands : Stands (opposite rank) (path_headrooms s a) (record { first = check })
     pub level : t.level ≡ level_at (check / 2)
     pub side : t.side ≡ side_at (check % 2)
     pub headroom : t.headroom ≡ headroom_at s a t.level t.side

@@ -1,7 +1,5 @@
 -- What the code's sums hold. Assumes nothing.
 use Rattle.std.specs.Prelude.{◌≡◌, ℕ, ◌*◌, ◌<◌, cond, List, length, ℤ, pos, Some, None, Option}
-use Rattle.ledger.specs.declared.cells.Quote.{Quote}
-use Rattle.ledger.specs.Meanings.{Meaning}
 use Rattle.expiry.specs.declared.side.Side.{Side}
 use Rattle.expiry.specs.declared.side.Side.TheVariants.{Long, Short}
 use Rattle.expiry.specs.declared.quantity.Quantity.{Quantity}
@@ -14,8 +12,7 @@ use Rattle.parties.specs.Directories.{belongs}
 use Rattle.limiter.specs.declared.change.Change.{Change}
 use Rattle.limiter.specs.declared.sums.Range.{Range}
 use Rattle.limiter.specs.declared.sums.Sums.{Sums}
-use Rattle.limiter.specs.States.{State}
-use Rattle.limiter.specs.Positions.{Counts, Positions, summed, positions}
+use Rattle.limiter.specs.Positions.{Counts, Positions, summed}
 
 -- what one account adds to a party's number
 abbrev pub share : List Entry → Level → ℕ → Counts → ℕ → ℕ → ℤ

@@ -56,7 +56,7 @@ fn side_of(check: usize) -> Side
 
 impl<L: Ledger> Limiter<L> {
     pub(crate) fn quantities(&self, n: PartyNumber) -> Result<Reply, Fault>
-        ensures { Follows meaning (state_of self.now) (Call.Quantities n) (quantities_verdict n) result (state_of self.now) }
+        ensures { Follows L.Ledger.meaning (state_of self.now) (Call.Quantities n) (quantities_verdict n) result (state_of self.now) }
     {
         let Some(level) = Level::from_number(n.level) else {
             return Err(Fault::found(Reason::Unknown));
@@ -70,8 +70,8 @@ impl<L: Ledger> Limiter<L> {
     // What the limits of an account's party at a level leave.
     fn level_headrooms(&self, level: Level, account: usize) -> Headrooms
         requires { account < length (entries_of self.now.directory) }
-        ensures long { result.long ≡ headroom_at meaning (state_of self.now) account level Long }
-        ensures short { result.short ≡ headroom_at meaning (state_of self.now) account level Short }
+        ensures long { result.long ≡ headroom_at L.Ledger.meaning (state_of self.now) account level Long }
+        ensures short { result.short ≡ headroom_at L.Ledger.meaning (state_of self.now) account level Short }
     {
         let Some(party) = self.directory.party(level, account) else {
             return Headrooms {
@@ -89,7 +89,7 @@ impl<L: Ledger> Limiter<L> {
     // The first least headroom on the path of an account that was added.
     fn least(&self, account: usize) -> Tightest
         requires { account < length (entries_of self.now.directory) }
-        ensures { Least meaning (state_of self.now) account result }
+        ensures { Least L.Ledger.meaning (state_of self.now) account result }
     {
         let own = self.level_headrooms(Level::Account, account);
         let holder = self.level_headrooms(Level::Holder, account);
@@ -120,7 +120,7 @@ impl<L: Ledger> Limiter<L> {
     }
 
     pub(crate) fn tightest(&self, account: usize) -> Result<Reply, Fault>
-        ensures { Follows meaning (state_of self.now) (Call.Tightest account) (tightest_verdict (state_of self.now) account) result (state_of self.now) }
+        ensures { Follows L.Ledger.meaning (state_of self.now) (Call.Tightest account) (tightest_verdict (state_of self.now) account) result (state_of self.now) }
     {
         if account >= self.directory.count() {
             return Err(Fault::found(Reason::Unknown));

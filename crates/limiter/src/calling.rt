@@ -52,14 +52,14 @@ fn is_enough(n: NewLimit, quantity: Quantity) -> bool
 
 impl<L: Ledger> Limiter<L> {
     fn add_strike(&mut self, strike: Strike) -> Result<Reply, Fault>
-        ensures { Follows meaning (state_of self.old) (Call.Strike strike) (extended (strikes_of self.old.class) strike.price strike.size) result (state_of self.new) }
+        ensures { Follows L.Ledger.meaning (state_of self.old) (Call.Strike strike) (extended (strikes_of self.old.class) strike.price strike.size) result (state_of self.new) }
     {
         self.class.add(strike.price, strike.size)?;
         Ok(Reply::Done)
     }
 
     fn add_account(&mut self, entry: Entry) -> Result<Reply, Fault>
-        ensures { Follows meaning (state_of self.old) (Call.Account entry) (enrolled (meaning self.old.ledger).taken (entries_of self.old.directory) entry) result (state_of self.new) }
+        ensures { Follows L.Ledger.meaning (state_of self.old) (Call.Account entry) (enrolled (L.Ledger.meaning self.old.ledger).taken (entries_of self.old.directory) entry) result (state_of self.new) }
     {
         let taken = self.ledger.accounts();
         self.directory.add(taken, entry)?;
@@ -70,7 +70,7 @@ impl<L: Ledger> Limiter<L> {
     fn check_limit(&self, level: Level, side: Side, n: NewLimit) -> Result<(), Fault>
         requires level { Some level ≡ level_of_number n.level }
         requires side { Some side ≡ side_of_number n.side }
-        ensures { result ≡ limit_verdict meaning (state_of self.now) n }
+        ensures { result ≡ limit_verdict L.Ledger.meaning (state_of self.now) n }
     {
         if n.party >= WIDTH {
             return Err(Fault::found(Reason::Unknown));
@@ -86,7 +86,7 @@ impl<L: Ledger> Limiter<L> {
     }
 
     fn set_limit(&mut self, n: NewLimit) -> Result<Reply, Fault>
-        ensures { Follows meaning (state_of self.old) (Call.Limit n) (limit_verdict meaning (state_of self.old) n) result (state_of self.new) }
+        ensures { Follows L.Ledger.meaning (state_of self.old) (Call.Limit n) (limit_verdict L.Ledger.meaning (state_of self.old) n) result (state_of self.new) }
     {
         let Some(level) = Level::from_number(n.level) else {
             return Err(Fault::found(Reason::Unknown));
@@ -100,8 +100,8 @@ impl<L: Ledger> Limiter<L> {
     }
 
     fn instruct(&mut self, i: Instruction) -> Result<Reply, Fault>
-        ensures follows { Follows meaning (state_of self.old) (Call.Instruct i) (instruct_verdict meaning (state_of self.old) i) result (state_of self.new) }
-        ensures kept { keeps self.old.ledger self.new.ledger }
+        ensures follows { Follows L.Ledger.meaning (state_of self.old) (Call.Instruct i) (instruct_verdict L.Ledger.meaning (state_of self.old) i) result (state_of self.new) }
+        ensures kept { L.Ledger.keeps self.old.ledger self.new.ledger }
     {
         self.admit(i)?;
         let _ = self.ledger.instruct(i);
@@ -110,8 +110,8 @@ impl<L: Ledger> Limiter<L> {
 
     // Answers exactly as defined, and leaves exactly the state defined. A decline changes nothing.
     pub fn call(&mut self, call: Call) -> Result<Reply, Fault>
-        ensures step { Step meaning keeps (state_of self.old) call result (state_of self.new) }
-        ensures extends { Extends meaning keeps (state_of self.old) call result (state_of self.new) }
+        ensures step { Step L.Ledger.meaning L.Ledger.keeps (state_of self.old) call result (state_of self.new) }
+        ensures extends { Extends L.Ledger.meaning L.Ledger.keeps (state_of self.old) call result (state_of self.new) }
     {
         match (self.phase, call) {
             (_, Call::Limit(n)) => self.set_limit(n),

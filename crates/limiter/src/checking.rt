@@ -74,7 +74,7 @@ impl<L: Ledger> Limiter<L> {
     fn check_level(&self, level: Level, account: usize, change: Option<Change>) -> Result<(), Fault>
         requires added { account < length (entries_of self.now.directory) }
         requires reach { InReach change }
-        ensures { result ≡ level_verdict meaning (state_of self.now) change account level }
+        ensures { result ≡ level_verdict L.Ledger.meaning (state_of self.now) change account level }
     {
         let Some(party) = self.directory.party(level, account) else {
             return Ok(());
@@ -89,7 +89,7 @@ impl<L: Ledger> Limiter<L> {
     pub(crate) fn check_path(&self, account: usize, change: Option<Change>) -> Result<(), Fault>
         requires added { account < length (entries_of self.now.directory) }
         requires reach { InReach change }
-        ensures { result ≡ path_verdict meaning (state_of self.now) change account }
+        ensures { result ≡ path_verdict L.Ledger.meaning (state_of self.now) change account }
     {
         self.check_level(Level::Account, account, change)?;
         self.check_level(Level::Holder, account, change)?;
@@ -110,7 +110,7 @@ impl<L: Ledger> Limiter<L> {
 
     // All checks of an instruction, in their order.
     pub(crate) fn admit(&self, i: Instruction) -> Result<(), Fault>
-        ensures { result ≡ instruct_verdict meaning (state_of self.now) i }
+        ensures { result ≡ instruct_verdict L.Ledger.meaning (state_of self.now) i }
     {
         self.check_own(i)?;
         let quote = ask_below(&self.ledger, i.account, i.series, Some(i))?;

@@ -1,5 +1,6 @@
 // Limits on what each party might take or hand over at expiry, over any ledger.
 #![tactic(auto)]
+
 mod asking;
 mod calling;
 mod change;

@@ -23,7 +23,7 @@ impl<L: Ledger> Limiter<L> {
     // In set-up, with no strike, account or limit.
     pub fn new(ledger: L) -> Limiter<L>
         ensures state { state_of result ≡ fresh ledger }
-        ensures begins { Promised meaning keeps ledger [] [] (state_of result) }
+        ensures begins { Promised L.Ledger.meaning L.Ledger.keeps ledger [] [] (state_of result) }
     {
         Limiter {
             phase: Phase::Setup,
@@ -52,7 +52,7 @@ impl<L: Ledger> Limiter<L> {
 // Makes a limiter over the ledger and gives it each call in turn. Memory for the answers is had before the first call;
 // where there is none, the ledger comes back as it was.
 pub fn run<L: Ledger>(heap: Global, ledger: L, calls: &[Call]) -> Result<Ran<L>, AllocFailed<L>>
-    ensures promised { IfOk result (λ x. Promised meaning keeps ledger calls.now x.answers.items (state_of x.limiter)) }
+    ensures promised { IfOk result (λ x. Promised L.Ledger.meaning L.Ledger.keeps ledger calls.now x.answers.items (state_of x.limiter)) }
     ensures refused { IfErr result (λ y. y.value ≡ ledger) }
 {
     let Ok(mut answers) = Vec::with_capacity(heap, calls.len()) else {

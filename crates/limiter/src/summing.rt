@@ -43,8 +43,8 @@ fn as_sum(value: i64) -> Sum
 impl<L: Ledger> Limiter<L> {
     // The range of a cell as it stands.
     fn standing(&self, account: usize, series: usize) -> Range
-        ensures low { result.low ≡ lows (meaning self.now.ledger) None account series }
-        ensures high { result.high ≡ highs (meaning self.now.ledger) None account series }
+        ensures low { result.low ≡ lows (L.Ledger.meaning self.now.ledger) None account series }
+        ensures high { result.high ≡ highs (L.Ledger.meaning self.now.ledger) None account series }
         ensures near { NearBoth 1000000000 result }
     {
         let cell = read_below(&self.ledger, account, series);
@@ -57,8 +57,8 @@ impl<L: Ledger> Limiter<L> {
     // The range of a cell, after a change.
     fn range(&self, change: Option<Change>, account: usize, series: usize) -> Range
         requires { InReach change }
-        ensures low { result.low ≡ lows (meaning self.now.ledger) change account series }
-        ensures high { result.high ≡ highs (meaning self.now.ledger) change account series }
+        ensures low { result.low ≡ lows (L.Ledger.meaning self.now.ledger) change account series }
+        ensures high { result.high ≡ highs (L.Ledger.meaning self.now.ledger) change account series }
         ensures near { NearBoth 1000000000 result }
     {
         match change {
@@ -87,8 +87,8 @@ impl<L: Ledger> Limiter<L> {
     ) -> Range
         requires reach { InReach change }
         requires added { account < length (entries_of self.now.directory) }
-        ensures low { result.low ≡ share (entries_of self.now.directory) level party (lows (meaning self.now.ledger) change) series account }
-        ensures high { result.high ≡ share (entries_of self.now.directory) level party (highs (meaning self.now.ledger) change) series account }
+        ensures low { result.low ≡ share (entries_of self.now.directory) level party (lows (L.Ledger.meaning self.now.ledger) change) series account }
+        ensures high { result.high ≡ share (entries_of self.now.directory) level party (highs (L.Ledger.meaning self.now.ledger) change) series account }
         ensures near { NearBoth 1000000000 result }
     {
         if !self.directory.belongs(level, party, account) {
@@ -106,8 +106,8 @@ impl<L: Ledger> Limiter<L> {
         series: usize,
     ) -> Range
         requires { InReach change }
-        ensures low { result.low ≡ summed (entries_of self.now.directory) level party (lows (meaning self.now.ledger) change) series }
-        ensures high { result.high ≡ summed (entries_of self.now.directory) level party (highs (meaning self.now.ledger) change) series }
+        ensures low { result.low ≡ summed (entries_of self.now.directory) level party (lows (L.Ledger.meaning self.now.ledger) change) series }
+        ensures high { result.high ≡ summed (entries_of self.now.directory) level party (highs (L.Ledger.meaning self.now.ledger) change) series }
         ensures near { NearBoth 64000000000 result }
     {
         let mut sum = Range { low: 0, high: 0 };
@@ -124,7 +124,7 @@ impl<L: Ledger> Limiter<L> {
     // A party's range in each series of a strike.
     fn sums(&self, level: Level, party: usize, change: Option<Change>) -> Sums
         requires { InReach change }
-        ensures { Adds (positions meaning (state_of self.now) change) level party result }
+        ensures { Adds (positions L.Ledger.meaning (state_of self.now) change) level party result }
     {
         let none = Sum::zero();
         let mut sums = Sums {
@@ -147,8 +147,8 @@ impl<L: Ledger> Limiter<L> {
         change: Option<Change>,
     ) -> Quantities
         requires { InReach change }
-        ensures long { Told (positions meaning (state_of self.now) change) level party Long result.long }
-        ensures short { Told (positions meaning (state_of self.now) change) level party Short result.short }
+        ensures long { Told (positions L.Ledger.meaning (state_of self.now) change) level party Long result.long }
+        ensures short { Told (positions L.Ledger.meaning (state_of self.now) change) level party Short result.short }
         ensures floor { (pos 0 ≤ℤ result.long.value) × (pos 0 ≤ℤ result.short.value) }
         ensures near { Near 20480000000000000 result.long.value × Near 20480000000000000 result.short.value }
     {

@@ -17,6 +17,13 @@ use Rattle.parties.proofs.Rows.{all_same}
 pub none_proper : AllProper (replicate 256 no_record)
 none_proper k = let e = all_same 256 k no_record in (ap (λ (r : LimitRecord). proper r.long) e, ap (λ (r : LimitRecord). proper r.short) e)
 
+-- a proper record is written
+pub proper_set : (rs : List LimitRecord) (n : ℕ) (r : LimitRecord) → AllProper rs → n < length rs → (proper r.long ≡ true) × (proper r.short ≡ true) → AllProper (set rs n r)
+proper_set rs n r all room new k = elim (eqb_tells k n) [
+  | inl t ↦ let e = ap (λ z. record_at (set rs n r) z) t.1 ∙ get_or-set_same rs n r no_record room in (ap (λ (z : LimitRecord). proper z.long) e ∙ new.0, ap (λ (z : LimitRecord). proper z.short) e ∙ new.1)
+  | inr t ↦ let e = get_or-set_other rs n k r no_record t.1 in (ap (λ (z : LimitRecord). proper z.long) e ∙ (all k).0, ap (λ (z : LimitRecord). proper z.short) e ∙ (all k).1)
+]
+
 -- every limit of such records is missing
 pub none_limits : limits_in (replicate 256 no_record) ≡ none_set
 none_limits i l q d = (ap (λ r. cond (ltb q 64) (side_of d r) None) (all_same 256 (place l q) no_record) ∙ nothing d (ltb q 64)) i

@@ -1,5 +1,6 @@
 // Who stands behind an account, and the limit of each party.
 #![tactic(auto)]
+
 ghost use Rattle.std.specs.Prelude.{◌≡◌, ℕ, ◌≤◌, length};
 ghost use Rattle.parties.specs.Tables.{AllNumbered, AllProper};
 

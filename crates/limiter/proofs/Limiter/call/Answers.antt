@@ -1,4 +1,4 @@
-use Rattle.std.proofs.Common.{◌≡◌, ℕ, Bool, true, false, Ok, Err, sym, refl, ap, ◌∙◌, arith}
+use Rattle.std.proofs.Common.{◌≡◌, ℕ, Bool, false, Ok, Err, sym, refl, ap, ◌∙◌, arith}
 use Rattle.ledger.specs.declared.cells.Instruction.{Instruction}
 use Rattle.ledger.specs.declared.faults.Fault.{Fault}
 use Rattle.ledger.specs.declared.faults.Reason.TheVariants as reason
@@ -26,29 +26,29 @@ no_start i e = let z : ◌≡◌ {A = ℕ} 0 1 = cc in omega arith
 abbrev below : (g : given.Over) → Below g.row.L.Denot
 below g = record { meaning = g.L.Ledger.meaning; keeps = g.L.Ledger.keeps; lawful = g.met.L.Ledger.lawful; still = g.met.L.Ledger.still; onward = g.met.L.Ledger.onward }
 
-pub returns-in-default-Limit : goal.returns-in-default-Limit
-returns-in-default-Limit g c =
-    let a = answered_quietly (below g) c.args.self.now c.set-limit.new.self c.args.call (call.Limit c.in-default-Limit.n) c.set-limit.result false _ c.in-default-Limit.is-1 refl c.set-limit.ensures refl (λ x y e. e) in
+pub returns-in_default-Limit : goal.returns-in_default-Limit
+returns-in_default-Limit g c =
+    let a = answered_quietly (below g) c.args.self.now c.set_limit.new.self c.args.call (call.Limit c.in_default-Limit.n) c.set_limit.result false _ c.in_default-Limit.is-1 refl c.set_limit.ensures refl (λ x y e. e) in
     record { step = a.0; extends = a.1 }
 
-pub returns-in-default-Quantities : goal.returns-in-default-Quantities
-returns-in-default-Quantities g c =
-    let a = answered_quietly (below g) c.args.self.now c.args.self.now c.args.call (call.Quantities c.in-default-Quantities.n) c.quantities.result false _ c.in-default-Quantities.is-1 refl c.quantities.ensures refl (λ x y e. e) in
+pub returns-in_default-Quantities : goal.returns-in_default-Quantities
+returns-in_default-Quantities g c =
+    let a = answered_quietly (below g) c.args.self.now c.args.self.now c.args.call (call.Quantities c.in_default-Quantities.n) c.quantities.result false _ c.in_default-Quantities.is-1 refl c.quantities.ensures refl (λ x y e. e) in
     record { step = a.0; extends = a.1 }
 
-pub returns-in-default-Tightest : goal.returns-in-default-Tightest
-returns-in-default-Tightest g c =
-    let a = answered_quietly (below g) c.args.self.now c.args.self.now c.args.call (call.Tightest c.in-default-Tightest.account) c.tightest.result false _ c.in-default-Tightest.is-1 refl c.tightest.ensures refl (λ x y e. e) in
+pub returns-in_default-Tightest : goal.returns-in_default-Tightest
+returns-in_default-Tightest g c =
+    let a = answered_quietly (below g) c.args.self.now c.args.self.now c.args.call (call.Tightest c.in_default-Tightest.account) c.tightest.result false _ c.in_default-Tightest.is-1 refl c.tightest.ensures refl (λ x y e. e) in
     record { step = a.0; extends = a.1 }
 
 pub returns-in-Setup-Strike : goal.returns-in-Setup-Strike
 returns-in-Setup-Strike g c =
-    let a = answered_quietly (below g) c.args.self.now c.add-strike.new.self c.args.call (call.Strike c.in-Setup-Strike.strike) c.add-strike.result false _ c.in-Setup-Strike.is-1 (ap (λ (p : Phase). verdict g.L.Ledger.meaning (state_of c.args.self.now) false p (call.Strike c.in-Setup-Strike.strike)) c.in-Setup-Strike.is-0) c.add-strike.ensures refl (λ x y e. e) in
+    let a = answered_quietly (below g) c.args.self.now c.add_strike.new.self c.args.call (call.Strike c.in-Setup-Strike.strike) c.add_strike.result false _ c.in-Setup-Strike.is-1 (ap (λ (p : Phase). verdict g.L.Ledger.meaning (state_of c.args.self.now) false p (call.Strike c.in-Setup-Strike.strike)) c.in-Setup-Strike.is-0) c.add_strike.ensures refl (λ x y e. e) in
     record { step = a.0; extends = a.1 }
 
 pub returns-in-Setup-Account : goal.returns-in-Setup-Account
 returns-in-Setup-Account g c =
-    let a = answered_quietly (below g) c.args.self.now c.add-account.new.self c.args.call (call.Account c.in-Setup-Account.entry) c.add-account.result false _ c.in-Setup-Account.is-1 (ap (λ (p : Phase). verdict g.L.Ledger.meaning (state_of c.args.self.now) false p (call.Account c.in-Setup-Account.entry)) c.in-Setup-Account.is-0) c.add-account.ensures refl (λ x y e. e) in
+    let a = answered_quietly (below g) c.args.self.now c.add_account.new.self c.args.call (call.Account c.in-Setup-Account.entry) c.add_account.result false _ c.in-Setup-Account.is-1 (ap (λ (p : Phase). verdict g.L.Ledger.meaning (state_of c.args.self.now) false p (call.Account c.in-Setup-Account.entry)) c.in-Setup-Account.is-0) c.add_account.ensures refl (λ x y e. e) in
     record { step = a.0; extends = a.1 }
 
 pub returns-in-Started-Strike : goal.returns-in-Started-Strike

@@ -1,4 +1,4 @@
-use Rattle.std.proofs.Common.{◌≡◌, Bool, Err, sym, ap, ◌∙◌}
+use Rattle.std.proofs.Common.{Bool, Err, sym, ap, ◌∙◌}
 use lib.Signed.{le_z}
 use Rattle.ledger.specs.declared.faults.Fault.{Fault}
 use Rattle.ledger.specs.declared.faults.Reason.TheVariants as reason
@@ -8,18 +8,18 @@ use Rattle.limiter.specs.Verdicts.{Verdict, require, found_at}
 use Rattle.limiter.proofs.Steps.{limit_is}
 use Rattle.limiter.proofs.Limiter.check_limit.Goals as goal
 
-pub returns-then-not-is-enough : goal.returns-then-not-is-enough
-returns-then-not-is-enough g c =
+pub returns-then-not-is_enough : goal.returns-then-not-is_enough
+returns-then-not-is_enough g c =
     let f = found_at reason.InUse c.args.level c.args.side in
     let refused : Fault → Verdict = Err in
-    ap refused c.fault-at.ensures
-    ∙ ap (λ (b : Bool). require b f) c.if-not-is-enough.ensures
-    ∙ ap (λ (z : Quantity). require (le_z z.value c.args.n.limit) f) c.on-side-quantity.ensures
-    ∙ limit_is g.L.Ledger.meaning (state_of c.args.self.now) c.args.n c.args.level c.args.side c.party-quantities.result c.requires.level c.requires.side c.if-n-ge-WIDTH.false (sym c.if-not-is-proper.ensures) c.party-quantities.ensures.long c.party-quantities.ensures.short
+    ap refused c.fault_at.ensures
+    ∙ ap (λ (b : Bool). require b f) c.if-not-is_enough.ensures
+    ∙ ap (λ (z : Quantity). require (le_z z.value c.args.n.limit) f) c.on_side-quantity.ensures
+    ∙ limit_is g.L.Ledger.meaning (state_of c.args.self.now) c.args.n c.args.level c.args.side c.party_quantities.result c.requires.level c.requires.side c.if-n-ge-WIDTH.false (sym c.if-not-is_proper.ensures) c.party_quantities.ensures.long c.party_quantities.ensures.short
 
 pub returns : goal.returns
 returns g c =
     let f = found_at reason.InUse c.args.level c.args.side in
-    ap (λ (b : Bool). require b f) c.if-not-is-enough.ensures
-    ∙ ap (λ (z : Quantity). require (le_z z.value c.args.n.limit) f) c.on-side-quantity.ensures
-    ∙ limit_is g.L.Ledger.meaning (state_of c.args.self.now) c.args.n c.args.level c.args.side c.party-quantities.result c.requires.level c.requires.side c.if-n-ge-WIDTH.false (sym c.if-not-is-proper.ensures) c.party-quantities.ensures.long c.party-quantities.ensures.short
+    ap (λ (b : Bool). require b f) c.if-not-is_enough.ensures
+    ∙ ap (λ (z : Quantity). require (le_z z.value c.args.n.limit) f) c.on_side-quantity.ensures
+    ∙ limit_is g.L.Ledger.meaning (state_of c.args.self.now) c.args.n c.args.level c.args.side c.party_quantities.result c.requires.level c.requires.side c.if-n-ge-WIDTH.false (sym c.if-not-is_proper.ensures) c.party_quantities.ensures.long c.party_quantities.ensures.short

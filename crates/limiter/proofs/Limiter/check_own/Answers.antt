@@ -1,4 +1,4 @@
-use Rattle.std.proofs.Common.{◌≡◌, ◌*◌, ◌<◌, length, ap, subst, arith}
+use Rattle.std.proofs.Common.{◌*◌, ◌<◌, length, subst, arith}
 use Rattle.strikes.specs.Classes.{strikes_of}
 use Rattle.limiter.specs.States.{state_of}
 use Rattle.limiter.proofs.Filling.{series_few}

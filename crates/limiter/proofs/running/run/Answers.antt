@@ -1,4 +1,4 @@
-use Rattle.std.proofs.Common.{◌≡◌, [], vec_items, sym, ap, ◌∙◌, subst, arith}
+use Rattle.std.proofs.Common.{[], vec_items, sym, subst, arith}
 use Rattle.limiter.specs.States.{State, state_of}
 use Rattle.limiter.specs.Promise.{Promised}
 use Rattle.limiter.proofs.Runs.{begins, promised_next, promised_all}
@@ -20,7 +20,7 @@ loop-call-preserved g c =
       omega arith,
       omega arith,
       omega arith,
-      promised_next l.meaning laws.lawful l.keeps laws.still laws.onward _ _ _ _ _ _ _ _ _ c.loop-call-test.true c.push-reserved.ensures.items c.call.ensures.extends c.loop-call.invariant.3,
+      promised_next l.meaning laws.lawful l.keeps laws.still laws.onward _ _ _ _ _ _ _ _ _ c.loop-call-test.true c.push_reserved.ensures.items c.call.ensures.extends c.loop-call.invariant.3,
     )
 
 pub returns : goal.returns

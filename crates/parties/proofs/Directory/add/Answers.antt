@@ -8,17 +8,19 @@ pub invariant_of-self : goal.invariant_of-self
 invariant_of-self c =
     let d = c.args.self.now in
     let e = c.args.entry in
-    let room : d.count < length d.entries = omega arith in (
-      length-set d.entries d.count e ∙ d.whole,
-      (omega arith, (numbered_set d.entries d.count e d.numbered room (numbered_parts e (sym c.if-not-is-numbered.ensures)), tt)),
-    )
+    let room : d.count < length d.entries = omega arith in
+    record {
+      whole = length-set d.entries d.count e ∙ d.whole;
+      few = omega arith;
+      numbered = numbered_set d.entries d.count e d.numbered room (numbered_parts e (sym c.if-not-is_numbered.ensures));
+    }
 
 pub returns : goal.returns
 returns c =
     let d = c.args.self.now in
     let len : length (entries_of d) ≡ d.count = length-take-le d.count d.entries (omega arith) in
-    let alone : clashes (entries_of d) c.args.entry ≡ false = sym c.if-has-clash.ensures.value in
+    let alone : clashes (entries_of d) c.args.entry ≡ false = sym c.if-has_clash.ensures.value in
     record {
-      answer = sym (enrolled_ok c.args.taken (entries_of d) c.args.entry (omega arith) (omega arith) (sym c.if-not-is-numbered.ensures) alone);
+      answer = sym (enrolled_ok c.args.taken (entries_of d) c.args.entry (omega arith) (omega arith) (sym c.if-not-is_numbered.ensures) alone);
       left = take_more_set d.entries d.count _ (omega arith);
     }

@@ -3,7 +3,7 @@ use Rattle.parties.proofs.Records.{none_proper, none_limits}
 use Rattle.parties.proofs.Limits.new.Goals as goal
 
 pub invariant_of-result : goal.invariant_of-result
-invariant_of-result c = (refl, (none_proper, tt))
+invariant_of-result c = record { whole = refl; proper = none_proper }
 
 pub returns : goal.returns
 returns c = none_limits
