@@ -7,7 +7,6 @@ ghost use Rattle.ledger.specs.Meanings.{Instructed};
 ghost use Rattle.cover.specs.Covering.{with_cover, cover_quote, cover_sent, fitting, cover_after, CoverIn};
 ghost use Rattle.cover.specs.Keeping.{layer_meaning, LayerKeeps};
 ghost use Rattle.cover.specs.CoverFacts.{cover_lawful};
-ghost use Rattle.std.proofs.Common.{rules, arith};
 
 use crate::CoverLayer;
 use ledger::actions::Action;
@@ -79,7 +78,7 @@ impl<L: Ledger> Ledger for CoverLayer<L> {
 
     ghost lawful = { λ x. cover_lawful _ (L.Ledger.lawful x.below) x.cover x.cover_kept };
 
-    ghost still = { first_of (Prim.search rules, Prim.grind (arith, Self.row.coded.inj)) };
+    ghost still = { λ x. L.Ledger.still x.below };
 
     ghost onward = { λ x y z p q. L.Ledger.onward x.below y.below z.below p q };
 

@@ -5,7 +5,6 @@
 ghost use Rattle.std.specs.Prelude.{◌≡◌, ℕ};
 ghost use Rattle.foreign.specs.Spans.{spanned, span_meaning};
 ghost use Rattle.foreign.specs.SpansLemmas.{span_lawful};
-ghost use Rattle.std.proofs.Common.{rules};
 
 use ledger::cells::{Cell, Instruction, Quote};
 use ledger::checks::check;
@@ -42,9 +41,9 @@ impl<L: Ledger> Ledger for SpanLayer<L> {
 
     ghost lawful = { λ x. span_lawful (L.Ledger.meaning x.below) (L.Ledger.lawful x.below) };
 
-    ghost still = { Prim.search rules };
+    ghost still = { λ _. tt };
 
-    ghost onward = { Prim.search rules };
+    ghost onward = { λ _ _ _ _ _. tt };
 
     fn accounts(&self) -> usize {
         self.below.accounts()

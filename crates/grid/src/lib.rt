@@ -1,14 +1,14 @@
 // The grid book: one number for every cell.
 #![tactic(auto)]
 
-ghost use Rattle.std.specs.Prelude.{◌≡◌, ℕ, ◌<◌, pos, slice_index_or};
+ghost use Rattle.std.specs.Prelude.{◌≡◌, ℕ, ◌*◌, ◌<◌, pos, slice_index_or};
 ghost use Rattle.ledger.specs.Actions.{Within};
 ghost use Rattle.ledger.specs.Listing.{place};
 ghost use Rattle.tables.specs.Tables.{at, items, rows_of, Cleared, Untouched};
 ghost use Rattle.grid.specs.Grids.{grid_meaning, grid_capacity};
 ghost use Rattle.grid.specs.GridsLemmas.{grid_lawful, grid_laws};
 ghost use Rattle.tables.proofs.Writes.{untouched_still, untouched_onward};
-ghost use Rattle.std.proofs.Common.{rules, arith};
+ghost use Rattle.std.proofs.Common.{ap};
 
 use ledger::books::{Book, Holding};
 use ledger::cells::{Cell, Instruction, Quote};
@@ -102,7 +102,7 @@ impl Book for GridBook {
 
     ghost book = { λ x. grid_laws x.held };
 
-    ghost fixed = { first_of (Prim.search rules, Prim.grind (arith, Self.row.coded.inj)) };
+    ghost fixed = { λ x y k. ap (λ n. 64 * n) k.rows };
 
     fn next_held(&self, from: usize) -> Option<Holding> {
         let end = self.held.rows() * WIDTH;

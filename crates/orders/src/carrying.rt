@@ -8,7 +8,6 @@ ghost use Rattle.tables.specs.Tables.{at};
 ghost use Rattle.orders.specs.Keeping.{layer_meaning, LayerKeeps};
 ghost use Rattle.orders.specs.Resting.{order_sent, buys_after, sells_after, enough, widened, in_reach, RestIn, Near};
 ghost use Rattle.orders.specs.OrderFacts.{order_lawful};
-ghost use Rattle.std.proofs.Common.{rules, arith};
 
 use crate::OrderLayer;
 use ledger::actions::Action;
@@ -139,9 +138,9 @@ impl<L: Ledger> Ledger for OrderLayer<L> {
 
     ghost lawful = { λ x. order_lawful _ (L.Ledger.lawful x.below) x.buys x.sells x.buys_rest x.sells_rest };
 
-    ghost still = { first_of (Prim.search rules, Prim.grind (arith, Self.row.coded.inj)) };
+    ghost still = { λ x. (L.Ledger.still x.below, λ h. h) };
 
-    ghost onward = { first_of (Prim.search rules, Prim.grind (arith, Self.row.coded.inj)) };
+    ghost onward = { λ x y z p q. (L.Ledger.onward x.below y.below z.below p.0 q.0, λ h. q.1 (p.1 h)) };
 
     fn accounts(&self) -> usize {
         self.below.accounts()
