@@ -1,10 +1,8 @@
 -- A day from the stack as it is made to its sheet. Assumes nothing.
 use Rattle.std.proofs.Common.{◌≡◌, ℕ, List, map, IfOk, Ok, Err, Result, sym, ap, ◌∙◌, subst}
 use Rattle.std.proofs.lemmas.List.{map-append}
-use Rattle.cover.specs.declared.CoverLayer.{CoverLayer}
 use Rattle.grid.specs.declared.GridBook.{GridBook}
 use Rattle.grid.specs.Grids.{grid_meaning}
-use Rattle.orders.specs.declared.OrderLayer.{OrderLayer}
 use Rattle.orders.specs.Resting.{order_meaning, Plain}
 use Rattle.tables.specs.Tables.{rows_of, AllZero}
 use Rattle.lines.specs.declared.writing.OutputLine.{OutputLine}
@@ -12,17 +10,17 @@ use Rattle.day.specs.Cuts.{Cut}
 use Rattle.day.specs.Days.{buffer, Serves}
 use Rattle.day.specs.Runs.{Run}
 use Rattle.day.specs.Sheets.{AddsSheet}
-use Rattle.day.specs.Stacks.{Stack, book_of, meaning_of, Kept, Fresh, Day}
+use Rattle.day.specs.Stacks.{Orders, Stack, book_of, meaning_of, Kept, Fresh, Day}
 
 -- an order layer with nothing resting, over a book of 64 accounts with nothing held
-pub record Idle (o : OrderLayer GridBook) : Type 0 where
+pub record Idle (o : Orders) : Type 0 where
   pub held : AllZero o.below.held
   pub rows : rows_of o.below.held ≡ 64
   pub buys : AllZero o.buys
   pub sells : AllZero o.sells
   pub plain : Plain (grid_meaning o.below.held) (order_meaning (grid_meaning o.below.held) o.buys o.sells)
 
-pub idle : (o : OrderLayer GridBook) (b : GridBook) → o.below ≡ b → AllZero b.held → rows_of b.held ≡ 64 → AllZero o.buys → AllZero o.sells
+pub idle : (o : Orders) (b : GridBook) → o.below ≡ b → AllZero b.held → rows_of b.held ≡ 64 → AllZero o.buys → AllZero o.sells
     → Plain (grid_meaning o.below.held) (order_meaning (grid_meaning o.below.held) o.buys o.sells) → Idle o
 idle o b e zero rows buys sells plain = record {
   held = subst (λ (x : GridBook). AllZero x.held) (sym e) zero;
@@ -33,7 +31,7 @@ idle o b e zero rows buys sells plain = record {
 }
 
 -- with nothing covered above it
-pub fresh : (x : Stack) (o : OrderLayer GridBook) → x.below ≡ o → AllZero x.cover → Idle o → Fresh x
+pub fresh : (x : Stack) (o : Orders) → x.below ≡ o → AllZero x.cover → Idle o → Fresh x
 fresh x o e cover i =
     let below : Idle x.below = subst Idle (sym e) i in
     record {

@@ -1,5 +1,5 @@
 -- The sheet of a book. Assumes nothing.
-use Rattle.std.specs.Prelude.{◌≡◌, ℕ, ◌+◌, ◌<◌, List, ◌++◌, map, length, pos, Some, None, Option, ◌≢◌, slice_index_or}
+use Rattle.std.specs.Prelude.{◌≡◌, ℕ, ◌<◌, List, ◌++◌, map, length, pos, Some, None, Option, ◌≢◌, slice_index_or}
 use Rattle.ledger.specs.declared.cells.Cell.{Cell}
 use Rattle.ledger.specs.declared.books.Holding.{Holding}
 use Rattle.ledger.specs.Listing.{place, Held}

@@ -4,19 +4,27 @@ use Rattle.cover.specs.declared.CoverLayer.{CoverLayer}
 use Rattle.cover.specs.Covering.{cover_meaning}
 use Rattle.grid.specs.declared.GridBook.{GridBook}
 use Rattle.grid.specs.Grids.{grid_meaning}
+use Rattle.grid.specs.contracts.GridBook.{the_row}
+use Rattle.grid.specs.contracts.GridBookLedger.TheImpl as grid
 use Rattle.ledger.specs.declared.books.Holding.{Holding}
 use Rattle.ledger.specs.Meanings.{Meaning}
 use Rattle.lines.specs.Output.{SheetLine}
 use Rattle.orders.specs.declared.OrderLayer.{OrderLayer}
 use Rattle.orders.specs.Resting.{order_meaning, Plain}
+use Rattle.orders.specs.contracts.carrying.OrderLayerLedger.TheImpl as orders
 use Rattle.tables.specs.Tables.{Untouched}
 use Rattle.day.specs.Cuts.{Cut}
 use Rattle.day.specs.Days.{Serves}
 use Rattle.day.specs.Runs.{Run, Each}
 use Rattle.day.specs.Sheets.{Listing}
 
+-- the orders above a grid book, by what the book means
+abbrev pub Orders : Type 0
+Orders = OrderLayer GridBook grid.ghosts
+
+-- and the cover above them, by what they mean
 abbrev pub Stack : Type 0
-Stack = CoverLayer (OrderLayer GridBook)
+Stack = CoverLayer Orders (orders.ghosts the_row grid.ghosts orders.no_dict)
 
 -- the book, the orders above it, and the cover above them
 abbrev pub book_of : Stack → Meaning

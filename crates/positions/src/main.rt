@@ -1,6 +1,7 @@
 // Carries a day's instruction lines from standard input through cover above orders above a grid book, and prints an
 // answer for each, then the sheet of held cells.
 #![tactic(auto)]
+
 use std::io::{BufWriter, Read, Write};
 
 fn main(rt: HostRuntime) -> anyhow::Result<()> {

@@ -1,11 +1,10 @@
 use Rattle.std.proofs.Common.{map, vec_items, ap, ◌∙◌, subst}
 use Rattle.grid.specs.declared.GridBook.{GridBook}
 use Rattle.grid.specs.Grids.{grid_meaning}
-use Rattle.orders.specs.declared.OrderLayer.{OrderLayer}
 use Rattle.day.specs.Days.{buffer, Serves}
 use Rattle.day.specs.Runs.{Run}
 use Rattle.day.specs.Sheets.{AddsSheet}
-use Rattle.day.specs.Stacks.{meaning_of, Kept, Day}
+use Rattle.day.specs.Stacks.{Orders, meaning_of, Kept}
 use Rattle.day.proofs.Opening.{day_of, made_weaker}
 use Rattle.day.proofs.stacks.run_day.Goals as goal
 
@@ -16,7 +15,7 @@ returns c =
     let last = c.carry_lines.new.ledger in
     let lines = map (λ x. x.now) (vec_items c.in_ok-lines.lines) in
     let answers = vec_items c.in_ok-answers.answers in
-    let book = c.below-2.ensures ∙ ap (λ (o : OrderLayer GridBook). o.below) c.below.ensures in
+    let book = c.below-2.ensures ∙ ap (λ (o : Orders). o.below) c.below.ensures in
     let run = subst (λ ls. Run (Serves meaning_of Kept) first (map (λ x. x.now) ls) (map buffer answers) last) c.as_slice.ensures.value c.in_ok-answers.ensures.made in
     made_weaker _ _ c.add_sheet.result
     (λ v sheet. day_of text first last lines answers (vec_items v) c.in_ok-stack.ensures c.in_ok-lines.ensures run
