@@ -6,7 +6,7 @@ mod calling;
 mod change;
 mod checking;
 mod phase;
-pub mod running;
+mod running;
 mod summing;
 mod sums;
 
@@ -17,7 +17,7 @@ use strikes::Class;
 
 // Owns the ledger: from its making on, only its calls change the ledger.
 #[derive(Drop)]
-pub struct Limiter<L: Ledger> {
+pub(crate) struct Limiter<L: Ledger> {
     phase: Phase,
     class: Class,
     directory: Directory,
