@@ -1,11 +1,11 @@
 -- The order of headrooms, and that it is total. Assumes nothing.
-use Rattle.std.specs.Prelude.{◌≡◌, refl}
+use Rattle.std.specs.Prelude.{◌≡◌, Bool, true, false, ℤ, refl}
 use Rattle.std.specs.declared.cmp.Reverse.{Reverse}
 use Rattle.std.specs.declared.cmp.Ordering.TheVariants.{Less, Equal, Greater}
 use Rattle.std.specs.declared.cmp.Ordering.{Ordering}
 use Rattle.std.proofs.Common.{ap, true≢false}
 use Rattle.std.specs.Cmp.{IsTotalOrder, int_cmp_total}
-use Rattle.std.specs.Ordering.{is_lt, is_gt, ordering_reverse, int_cmp}
+use Rattle.std.specs.Ordering.{is_lt, is_eq, is_gt, ordering_reverse, int_cmp, int_eq}
 use Rattle.greatest.specs.declared.headrooms.Headroom.{Headroom}
 use Rattle.greatest.specs.declared.headrooms.Headroom.TheVariants.{Missing, Left}
 
@@ -40,6 +40,13 @@ levels (Left x) (Left y) (Left z) h = int_cmp_total.congr x y z h
 -- that order is total
 pub headrooms : IsTotalOrder rank
 headrooms = record { antisymm = flips; trans = chains; congr = levels }
+
+-- a test that tells headrooms apart by missing and by number is true of those that the order leaves level
+pub ties : (E : Headroom → Headroom → Bool) → E Missing Missing ≡ true → ((y : ℤ) → E Missing (Left y) ≡ false) → ((x : ℤ) → E (Left x) Missing ≡ false) → ((x y : ℤ) → E (Left x) (Left y) ≡ int_eq x y) → (x y : Headroom) → E x y ≡ is_eq (rank x y)
+ties E a b c d Missing Missing = a
+ties E a b c d Missing (Left y) = b y
+ties E a b c d (Left x) Missing = c x
+ties E a b c d (Left x) (Left y) = d x y
 
 -- an order turned round, as the entries of `Reverse` have it
 abbrev pub opposite : {K : Type 0} → (K → K → Ordering) → Reverse K → Reverse K → Ordering
