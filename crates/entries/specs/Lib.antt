@@ -2,3 +2,4 @@ pub mod Records
 pub mod Books
 pub mod Holds
 pub mod Orders
+pub mod Laws

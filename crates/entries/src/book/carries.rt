@@ -2,9 +2,7 @@
 ghost use Rattle.std.specs.Prelude.{◌≡◌, ℕ};
 ghost use Rattle.ledger.specs.Books.{book_meaning};
 ghost use Rattle.entries.specs.Books.{held_at, capacity_of, Keeps, items};
-ghost use Rattle.std.proofs.Common.{arith, rules, inl};
-ghost use Rattle.ledger.proofs.BookFacts.{book_lawful, book_laws};
-ghost use Rattle.entries.specs.Orders.{held_within, held_beyond, held_all, ordered};
+ghost use Rattle.entries.specs.Laws.{entry_lawful, entry_laws, keeps_capacity, keeps_still, keeps_onward};
 
 use super::EntryBook;
 use ledger::books::{Book, Holding};
@@ -18,14 +16,11 @@ impl Ledger for EntryBook {
 
     ghost keeps = { λ x y. Keeps x y };
 
-    ghost lawful = { λ x.
-        book_lawful 64 (capacity_of x) (held_at x) (omega arith)
-        (held_within (items x) x.live (capacity_of x) (ordered x))
-        (held_beyond (items x) x.live (capacity_of x) (ordered x)) };
+    ghost lawful = { entry_lawful };
 
-    ghost still = { Prim.search rules };
+    ghost still = { keeps_still };
 
-    ghost onward = { Prim.search rules };
+    ghost onward = { keeps_onward };
 
     fn accounts(&self) -> usize {
         WIDTH
@@ -77,14 +72,9 @@ impl Ledger for EntryBook {
 impl Book for EntryBook {
     ghost capacity = { λ x. capacity_of x };
 
-    ghost book = { λ x.
-        let fits = x.fits in
-        let all = held_all (items x) x.live (capacity_of x) (ordered x) in
-        book_laws 64 (capacity_of x) (held_at x)
-        (λ a s h. held_beyond (items x) x.live (capacity_of x) (ordered x) a s (inl h))
-        (omega arith) };
+    ghost book = { entry_laws };
 
-    ghost fixed = { Prim.search rules };
+    ghost fixed = { keeps_capacity };
 
     fn next_held(&self, from: usize) -> Option<Holding> {
         let k = self.position(from);
