@@ -1,6 +1,6 @@
 -- A text cut into lines, one more at a time. Assumes nothing.
 use Rattle.std.proofs.Common.{◌≡◌, ℕ, ◌+◌, ◌<◌, ◌≤◌, ◌⊎◌, List, [], ◌∷◌, ◌++◌, length, get_or, take, drop, sym, refl, ap, ◌∙◌, inl, inr, ⊎_elim, arith}
-use Rattle.std.specs.List.{between, AllByRecursion as All}
+use Rattle.std.specs.List.{between, AllByRecursion}
 use Rattle.std.proofs.lemmas.Bool.{cases_lt}
 use Rattle.std.proofs.lemmas.List.{append_assoc, take-append-drop, take_more, take_all, take-take, flat_map_more}
 use Rattle.std.proofs.lemmas.Slice.{between_is}
@@ -10,7 +10,7 @@ use Rattle.day.specs.Cuts.{ended, Free, Open, Cut}
 
 -- the lines up to a place, where the next one begins; past the end there is no next one
 pub record Cutting (text : List ℕ) (from : ℕ) (lines : List (List ℕ)) : Type 0 where
-  pub free : All Free lines
+  pub free : AllByRecursion Free lines
   pub done : ((from ≤ length text) × (ended lines ≡ take from text)) ⊎ ((length text < from) × Open text lines)
 
 pub cutting_none : (text : List ℕ) → Cutting text 0 []

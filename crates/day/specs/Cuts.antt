@@ -1,6 +1,6 @@
 -- How a text is cut into lines. Assumes nothing.
 use Rattle.std.specs.Prelude.{◌≡◌, ℕ, ◌<◌, ◌⊎◌, List, [], ◌∷◌, ◌++◌, length, ◌≢◌, slice_index}
-use Rattle.std.specs.List.{flat_map, AllByRecursion as All}
+use Rattle.std.specs.List.{flat_map, AllByRecursion}
 
 -- byte 10 ends a line
 abbrev pub ended : List (List ℕ) → List ℕ
@@ -20,5 +20,5 @@ pub record Open (text : List ℕ) (lines : List (List ℕ)) : Type 0 where
 
 -- the lines of a text
 pub record Cut (text : List ℕ) (lines : List (List ℕ)) : Type 0 where
-  pub free : All Free lines
+  pub free : AllByRecursion Free lines
   pub whole : (text ≡ ended lines) ⊎ Open text lines

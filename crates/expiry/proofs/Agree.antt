@@ -1,7 +1,7 @@
 -- Every price compares with every strike as some listed price does. Assumes nothing.
 use Rattle.std.proofs.Common.{◌≡◌, ℕ, suc, ◌+◌, ◌*◌, ◌<◌, ◌≤◌, List, [], ◌∷◌, length, get_or, sym, ◌∙◌, subst, ⊎_elim, mul-lt-mul_of_pos_right, arith}
 use lib.ListN.{length-map}
-use Rattle.std.specs.List.{AllByRecursion as All}
+use Rattle.std.specs.List.{AllByRecursion}
 use Rattle.std.proofs.lemmas.Bool.{lt-ltb, le-ltb, cases_lt, cases_order}
 use Rattle.std.proofs.ByRecursion.{All-weaker, All-get_or, All-from_get_or}
 use Rattle.std.proofs.lemmas.List.{get_or-map}
@@ -13,7 +13,7 @@ use Rattle.expiry.specs.Quantities.{price_at, Same, EveryPriceListed}
 -- rising from 1, by recursion on the list
 abbrev Rising : List ℕ → Type 0
 Rising [] = Unit {0}
-Rising (K ∷ ks) = (0 < K) × All (λ M. K < M) ks × Rising ks
+Rising (K ∷ ks) = (0 < K) × AllByRecursion (λ M. K < M) ks × Rising ks
 
 -- below, at or above a strike in both: the same two tests
 both_below : (p q d K : ℕ) → p < K * q → d < K * 2 → Same p q d K
@@ -26,13 +26,13 @@ both_at : (p q d K : ℕ) → p ≡ K * q → d ≡ K * 2 → Same p q d K
 both_at p q d K h k = (le-ltb (K * q) p (omega arith) ∙ sym (le-ltb (K * 2) d (omega arith)), le-ltb p (K * q) (omega arith) ∙ sym (le-ltb d (K * 2) (omega arith)))
 
 -- a price not above K, among strikes above K
-above_all : (p q d K : ℕ) → 0 < q → p ≤ K * q → d ≤ K * 2 → (ks : List ℕ) → All (λ M. K < M) ks → All (Same p q d) ks
+above_all : (p q d K : ℕ) → 0 < q → p ≤ K * q → d ≤ K * 2 → (ks : List ℕ) → AllByRecursion (λ M. K < M) ks → AllByRecursion (Same p q d) ks
 above_all p q d K pos-q h k ks a =
     All-weaker (λ M. K < M) (Same p q d) (λ M l. both_below p q d M (omega (arith, mul-lt-mul_of_pos_right {m = K} {n = M} {k = q} l pos-q)) (omega arith)) ks a
 
 -- a listed price from 2K on that stands as p/q does, where p/q is at least K, the first strike
 abbrev Found : ℕ → ℕ → ℕ → List ℕ → List ℕ → Type 0
-Found p q K ks ds = (j : ℕ) × (j < length ds) × (2 * K ≤ get_or ds j 0) × All (Same p q (get_or ds j 0)) (K ∷ ks)
+Found p q K ks ds = (j : ℕ) × (j < length ds) × (2 * K ≤ get_or ds j 0) × AllByRecursion (Same p q (get_or ds j 0)) (K ∷ ks)
 
 -- a strike below both prices changes nothing
 later : (p q K M : ℕ) (ks : List ℕ) → 0 < q → K < M → K * q < p → Found p q M ks (from_first (M ∷ ks)) → Found p q K (M ∷ ks) (from_first (K ∷ (M ∷ ks)))
@@ -71,7 +71,7 @@ from_listed p q pos-q K (M ∷ ks) r h =
     (cases_order (K * q) p)
 
 -- by where p/q lies: below the first, at a strike, between two, above the last
-agrees : (p q : ℕ) → 0 < q → (ks : List ℕ) → Rising ks → (j : ℕ) × (j < length (listed ks)) × All (Same p q (get_or (listed ks) j 0)) ks
+agrees : (p q : ℕ) → 0 < q → (ks : List ℕ) → Rising ks → (j : ℕ) × (j < length (listed ks)) × AllByRecursion (Same p q (get_or (listed ks) j 0)) ks
 agrees p q pos-q [] r = (0, omega arith, tt)
 agrees p q pos-q (K ∷ ks) r =
     ⊎_elim

@@ -1,7 +1,7 @@
 -- Text in a buffer of 64 bytes. Assumes nothing.
 use Rattle.std.proofs.Common.{◌≡◌, ℕ, suc, ◌+◌, ◌-◌, ◌*◌, ◌/◌, ◌%◌, ◌^◌, ◌<◌, ◌≤◌, min, cond, not, List, [], ◌∷◌, ◌++◌, length, take, set, replicate, ℤ, pos, negsuc, nat_abs, ◌<ℤ◌, decimal, sym, refl, ap, ◌∙◌, subst, inl, inr, append_assoc, append-nil, one-add, arith, w64, SFits, to_z, of_z}
 use lib.Signed.{mag}
-use Rattle.std.specs.List.{prefix_len, AllByRecursion as All}
+use Rattle.std.specs.List.{prefix_len, AllByRecursion}
 use Rattle.std.specs.Fmt.{signed_decimal}
 use Rattle.std.proofs.lemmas.Fmt.{decimal_by_steps, decimal_step, length-decimal-le, length_signed_le}
 use Rattle.std.proofs.ByRecursion.{All-push}
@@ -107,7 +107,7 @@ below_zero (negsuc m) n f l e = ap (λ k. 45 ∷ decimal k) (sym (e ∙ ap nat_a
 -- ---- what is printed
 
 -- the first byte 10 of a filled buffer stands behind the text
-leading_inside : (text rest : List ℕ) → All Inside text → prefix_len goes_on (text ++ 10 ∷ rest) ≡ length text
+leading_inside : (text rest : List ℕ) → AllByRecursion Inside text → prefix_len goes_on (text ++ 10 ∷ rest) ≡ length text
 leading_inside [] rest h = refl
 leading_inside (b ∷ text) rest h = ap (λ t. cond (not t) (1 + prefix_len goes_on (text ++ 10 ∷ rest)) 0) (ne_eqb b 10 h.0) ∙ one-add _ ∙ ap suc (leading_inside text rest h.1)
 

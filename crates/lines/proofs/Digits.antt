@@ -1,7 +1,7 @@
 -- Digits: how they are counted, and the number that they stand for. Assumes nothing.
 use Rattle.std.proofs.Common.{◌≡◌, ℕ, zero, suc, ◌+◌, ◌-◌, ◌*◌, ◌^◌, ◌<◌, ◌≤◌, min, Bool, true, false, cond, leb, List, [], ◌∷◌, ◌++◌, length, get_or, take, drop, ℤ, pos, Some, None, sym, refl, ap, ◌∙◌, subst, inl, inr, pow-suc, add-one, one-add, arith}
 use native.Mathlib.Nat.{pow-le-pow_right}
-use Rattle.std.specs.List.{prefix_len, AllByRecursion as All}
+use Rattle.std.specs.List.{prefix_len, AllByRecursion}
 use Rattle.std.specs.Char.{is_ascii_digit}
 use Rattle.std.proofs.lemmas.List.{take-append-drop, length-take-le, length-append}
 use Rattle.std.proofs.lemmas.Slice.{first_rest}
@@ -21,16 +21,16 @@ pub passes_digit : (b : ℕ) → Passes b → Digit b
 passes_digit b h = let p = and_parts (leb 48 b) (leb b 57) h in (leb-true 48 b p.0, leb-true b 57 p.1)
 
 -- what holds of all holds of one
-pub digit_at : (s : List ℕ) (i : ℕ) → i < length s → All Passes s → Digit (get_or s i 0)
+pub digit_at : (s : List ℕ) (i : ℕ) → i < length s → AllByRecursion Passes s → Digit (get_or s i 0)
 digit_at s i l a = passes_digit (get_or s i 0) (All-get_or Passes s i 0 l a)
 
 -- the first byte of those counted, by its test
-led : (t : Bool) (b n : ℕ) (s : List ℕ) → is_ascii_digit b ≡ t → suc n ≤ cond t (1 + prefix_len is_ascii_digit s) 0 → (n ≤ prefix_len is_ascii_digit s → All Passes (take n s)) → All Passes (b ∷ take n s)
+led : (t : Bool) (b n : ℕ) (s : List ℕ) → is_ascii_digit b ≡ t → suc n ≤ cond t (1 + prefix_len is_ascii_digit s) 0 → (n ≤ prefix_len is_ascii_digit s → AllByRecursion Passes (take n s)) → AllByRecursion Passes (b ∷ take n s)
 led true b n s e k more = (e, more (omega arith))
 led false b n s e k more = absurd (omega arith)
 
 -- the digits counted at the start are digits
-pub leading_all : (n : ℕ) (s : List ℕ) → n ≤ prefix_len is_ascii_digit s → All Passes (take n s)
+pub leading_all : (n : ℕ) (s : List ℕ) → n ≤ prefix_len is_ascii_digit s → AllByRecursion Passes (take n s)
 leading_all zero s h = tt
 leading_all (suc n) [] h = tt
 leading_all (suc n) (b ∷ s) h = led (is_ascii_digit b) b n s refl h (leading_all n s)
@@ -87,11 +87,11 @@ front (b ∷ t) n h = elim (cases_eq b 48) [
 ]
 
 -- what is taken is there, short and made of digits
-pub span_within : (s : List ℕ) (n : ℕ) → Spans s n → (n ≤ length s) × (n ≤ 18) × All Passes (take n s)
+pub span_within : (s : List ℕ) (n : ℕ) → Spans s n → (n ≤ length s) × (n ≤ 18) × AllByRecursion Passes (take n s)
 span_within s n h = by_front (front s n h)
   where
-    by_front : Front s n → (n ≤ length s) × (n ≤ 18) × All Passes (take n s)
-    by_front (alone t e one) = (omega (arith, ap length e), omega arith, subst (All Passes) (sym (ap (take n) e ∙ ap (λ m. take m (48 ∷ t)) one)) (refl, tt))
+    by_front : Front s n → (n ≤ length s) × (n ≤ 18) × AllByRecursion Passes (take n s)
+    by_front (alone t e one) = (omega (arith, ap length e), omega arith, subst (AllByRecursion Passes) (sym (ap (take n) e ∙ ap (λ m. take m (48 ∷ t)) one)) (refl, tt))
     by_front (more no_zero e) = (omega (arith, prefix_len-le-length is_ascii_digit s), omega arith, leading_all n s (omega arith))
 
 -- no digit is counted where there is none
@@ -138,7 +138,7 @@ span_taken s column n h z text rest f r =
       split = sym (take-append-drop n s) ∙ ap (λ x. x ++ drop n s) (sym f) ∙ ap (λ x. text ++ x) (sym r);
       reads = record {
         decimal = record {
-          digits = All-weaker Passes Digit passes_digit text (subst (All Passes) (sym f) w.2);
+          digits = All-weaker Passes Digit passes_digit text (subst (AllByRecursion Passes) (sym f) w.2);
           leads = subst Leads (sym f) (span_leads s n h z);
           stands = refl;
         };

@@ -1,6 +1,6 @@
 -- A text splits into its fields in one way. Assumes nothing.
 use Rattle.std.proofs.Common.{◌≡◌, ℕ, suc, ◌⊎◌, List, [], ◌∷◌, ◌++◌, ℤ, pos, negsuc, sym, refl, ap, ◌∙◌, subst, inl, inr, append-nil, arith}
-use Rattle.std.specs.List.{AllByRecursion as All}
+use Rattle.std.specs.List.{AllByRecursion}
 use Rattle.std.proofs.ByRecursion.{All-weaker}
 use Rattle.lines.specs.declared.fields.Kind.{Kind}
 use Rattle.lines.specs.declared.fields.Kind.TheVariants.{Plain, Signed}
@@ -16,7 +16,7 @@ cut (a ∷ x) y (b ∷ f) w e =
     elim (cut x y f w t) [ inl c ↦ inl (c.0, (cc), c.2) | inr c ↦ inr (c.0, c.1, (cc), c.3) ]
 
 -- what holds of each byte holds of one in the middle
-pub all_middle : (P : ℕ → Type 0) (xs : List ℕ) (b : ℕ) (ys : List ℕ) → All P (xs ++ b ∷ ys) → P b
+pub all_middle : (P : ℕ → Type 0) (xs : List ℕ) (b : ℕ) (ys : List ℕ) → AllByRecursion P (xs ++ b ∷ ys) → P b
 all_middle P [] b ys h = h.0
 all_middle P (x ∷ xs) b ys h = all_middle P xs b ys h.1
 
@@ -25,14 +25,14 @@ abbrev pub NoSpace : ℕ → Type 0
 NoSpace b = b ≡ 32 → ⊥
 
 -- digits are no spaces
-short_spaces : (n : ℕ) (ds : List ℕ) → Short n ds → All NoSpace ds
+short_spaces : (n : ℕ) (ds : List ℕ) → Short n ds → AllByRecursion NoSpace ds
 short_spaces n ds h = All-weaker Digit NoSpace (λ b d e. omega (arith, d.0)) ds h.decimal.digits
 
 -- nor is a minus sign
-pub no_spaces : (k : Kind) (z : ℤ) (f : List ℕ) → Field k z f → All NoSpace f
+pub no_spaces : (k : Kind) (z : ℤ) (f : List ℕ) → Field k z f → AllByRecursion NoSpace f
 no_spaces Plain z f h = short_spaces h.0 f h.2
 no_spaces Signed (pos n) f h = short_spaces n f h
-no_spaces Signed (negsuc n) f h = subst (All NoSpace) (sym h.1) ((λ e. omega arith), short_spaces (suc n) h.0 h.2)
+no_spaces Signed (negsuc n) f h = subst (AllByRecursion NoSpace) (sym h.1) ((λ e. omega arith), short_spaces (suc n) h.0 h.2)
 
 -- behind a field there is the end or a space
 pub fielded_first : (ks : List Kind) (zs : List ℤ) (b : ℕ) (u : List ℕ) → Parts ks zs (b ∷ u) → b ≡ 32
@@ -63,7 +63,7 @@ same_field k z f y reads ends ks (x ∷ xs) u same h =
     let t : f ++ u ≡ g ++ w = cc in
     elim (cut f u g w t) [
       | inl c ↦ at_or_after c.0 g w h.3 h.4 c.1 c.2
-      | inr c ↦ absurd (all_middle NoSpace g c.0 c.1 (subst (All NoSpace) c.2 (no_spaces k z f reads)) (fielded_first ks xs c.0 (c.1 ++ u) (subst (Parts ks xs) c.3 h.4)))
+      | inr c ↦ absurd (all_middle NoSpace g c.0 c.1 (subst (AllByRecursion NoSpace) c.2 (no_spaces k z f reads)) (fielded_first ks xs c.0 (c.1 ++ u) (subst (Parts ks xs) c.3 h.4)))
     ]
   where
     at_or_after : (v g w : List ℕ) → Field k x g → Parts ks xs w → g ≡ f ++ v → u ≡ v ++ w → Starts k ks (x ∷ xs) f u
@@ -72,7 +72,7 @@ same_field k z f y reads ends ks (x ∷ xs) u same h =
 
 -- a minus sign is no digit
 pub minus_digit : (n : ℕ) (f ds : List ℕ) → Short n f → f ≡ 45 ∷ ds → ⊥
-minus_digit n f ds h e = let d = subst (All Digit) e h.decimal.digits in omega (arith, d.0.0)
+minus_digit n f ds h e = let d = subst (AllByRecursion Digit) e h.decimal.digits in omega (arith, d.0.0)
 
 -- a field stands for one number, the value of its digits
 pub one_value : (k : Kind) (y z : ℤ) (f : List ℕ) → Field k y f → Field k z f → y ≡ z

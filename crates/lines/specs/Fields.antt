@@ -1,6 +1,6 @@
 -- How numbers stand in lines. Assumes nothing.
 use Rattle.std.specs.Prelude.{◌≡◌, ℕ, suc, ◌+◌, ◌-◌, ◌*◌, ◌≤◌, List, [], ◌∷◌, ◌++◌, length, ℤ, pos, negsuc, fold}
-use Rattle.std.specs.List.{AllByRecursion as All}
+use Rattle.std.specs.List.{AllByRecursion}
 use Rattle.lines.specs.declared.fields.Kind.{Kind}
 use Rattle.lines.specs.declared.fields.Kind.TheVariants.{Plain, Signed}
 
@@ -19,7 +19,7 @@ Leads (d ∷ ds) = d ≡ 48 → ds ≡ []
 
 -- ds are the digits of n
 pub record Decimal (n : ℕ) (ds : List ℕ) : Type 0 where
-  pub digits : All Digit ds
+  pub digits : AllByRecursion Digit ds
   pub leads : Leads ds
   pub stands : value ds ≡ n
 

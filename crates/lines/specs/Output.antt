@@ -1,6 +1,6 @@
 -- The lines of answers and sheets. Assumes nothing.
 use Rattle.std.specs.Prelude.{◌≡◌, ℕ, ◌+◌, ◌-◌, ◌≤◌, Bool, not, List, ◌∷◌, ◌++◌, length, take, replicate, Ok, Err, codes, Result, ◌==◌}
-use Rattle.std.specs.List.{prefix_len, AllByRecursion as All}
+use Rattle.std.specs.List.{prefix_len, AllByRecursion}
 use Rattle.ledger.specs.declared.books.Holding.{Holding}
 use Rattle.ledger.specs.declared.cells.Quote.{Quote}
 use Rattle.ledger.specs.declared.faults.Fault.{Fault}
@@ -15,7 +15,7 @@ Inside b = b ≡ 10 → ⊥
 pub record Filled (text buffer : List ℕ) : Type 0 where
   pub fits : length text ≤ 63
   pub holds : buffer ≡ text ++ 10 ∷ replicate (63 - length text) 0
-  pub inside : All Inside text
+  pub inside : AllByRecursion Inside text
 
 abbrev pub goes_on : ℕ → Bool
 goes_on b = not (b == 10)

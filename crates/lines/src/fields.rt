@@ -1,6 +1,6 @@
 // The fields of a line: a space and a number.
 ghost use Rattle.std.specs.Prelude.{◌≡◌, ◌+◌, ◌^◌, ◌<◌, ◌≤◌, min, true, length, pos};
-ghost use Rattle.std.specs.List.{prefix_len, AllByRecursion as All};
+ghost use Rattle.std.specs.List.{prefix_len, AllByRecursion};
 ghost use Rattle.std.specs.Char.{is_ascii_digit};
 ghost use Rattle.lines.specs.Fields.{value};
 ghost use Rattle.lines.specs.Reading.{Spans, DigitsRead, NumberRead, FieldRead};
@@ -50,7 +50,7 @@ fn number_length(s: &[u8]) -> usize
 // The number that at most 18 digits stand for.
 fn decimal(s: &[u8]) -> i64
     requires few { length s.now ≤ 18 }
-    requires digits { All (λ b. is_ascii_digit b ≡ true) s.now }
+    requires digits { AllByRecursion (λ b. is_ascii_digit b ≡ true) s.now }
     ensures { result ≡ pos (value s.now) }
 {
     let mut n = 0u64;

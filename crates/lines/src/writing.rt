@@ -1,7 +1,7 @@
 // Writes the lines of answers and sheets.
 ghost use Rattle.std.specs.Prelude.{◌≡◌, ℕ, ◌+◌, ◌^◌, ◌<◌, ◌≤◌, min, List, [], ◌∷◌, ◌++◌, length, decimal};
 ghost use Rattle.std.specs.Fmt.{signed_decimal};
-ghost use Rattle.std.specs.List.{prefix_len, AllByRecursion as All};
+ghost use Rattle.std.specs.List.{prefix_len, AllByRecursion};
 ghost use Rattle.lines.specs.Output.{Inside, Filled, goes_on, printed, AnswerLine, SheetLine};
 ghost use Rattle.lines.specs.Writing.{Holds, Appends};
 
@@ -73,7 +73,7 @@ impl Writer {
 
     fn text(self, s: &[u8]) -> Writer
         requires room { self.len + length s.now ≤ 63 }
-        requires inside { All Inside s.now }
+        requires inside { AllByRecursion Inside s.now }
         ensures { Appends self result s.now }
     {
         let mut line = self;

@@ -1,5 +1,5 @@
 use Rattle.std.proofs.Common.{sym, refl, ◌∙◌, subst, arith, w64, SFits, rules}
-use Rattle.std.specs.List.{AllByRecursion as All}
+use Rattle.std.specs.List.{AllByRecursion}
 use Rattle.std.proofs.lemmas.Int.{to_z-of_z}
 use Rattle.lines.proofs.Digits.{Passes, span_within, none_read, span_taken, some_read}
 use Rattle.lines.proofs.fields.read_digits.Goals as goal
@@ -15,7 +15,7 @@ decimal-requires c =
     let w = span_within _ _ c.number_length-n.ensures in
     record {
       few = omega (arith, c.split_at.ensures.front_len, w.1);
-      digits = subst (All Passes) (sym c.split_at.ensures.front) w.2;
+      digits = subst (AllByRecursion Passes) (sym c.split_at.ensures.front) w.2;
     }
 
 pub returns : goal.returns
