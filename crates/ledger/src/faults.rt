@@ -36,7 +36,7 @@ pub enum Reason {
     Limit,
     // A new limit is below the quantity.
     InUse,
-    // The line is not as it should be.
+    // The line is not an instruction's.
     Line,
 }
 

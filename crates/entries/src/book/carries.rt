@@ -1,7 +1,7 @@
 // How an entry book carries instructions, and lists what it holds.
 ghost use Rattle.std.specs.Prelude.{◌≡◌, ℕ};
 ghost use Rattle.ledger.specs.Books.{book_meaning};
-ghost use Rattle.entries.specs.Books.{held_at, capacity_of, Keeps, items};
+ghost use Rattle.entries.specs.Books.{held_at, capacity_of, Keeps};
 ghost use Rattle.entries.specs.Laws.{entry_lawful, entry_laws, keeps_capacity, keeps_still, keeps_onward};
 
 use super::EntryBook;
