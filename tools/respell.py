@@ -1,5 +1,5 @@
 #!/usr/bin/env python3
-"""Spells the repository's own definitions, lemmas and fields as today's Rattle spells names. Run once, at the top, after the kit's port.py.
+"""Spells the repository's own definitions, lemmas and fields as today's Rattle spells names. Run once, at the top, after the script that comes with Rattle.
 
 A word that this repository declares in specs/ or proofs/ gets `_` where it had `-` or a capital inside; a fact (a name with a capital first)
 loses the dash. A dash stays behind `length`, which joins two names. Names that the check makes (goals, steps of the code) keep their spelling.
