@@ -12,6 +12,7 @@ use Rattle.ledger.specs.declared.cells.Quote.{Quote}
 use Rattle.ledger.specs.Actions.{step, proper}
 use Rattle.ledger.specs.Cells.{empty, after, Quotes, Obeyed}
 use Rattle.ledger.specs.Meanings.{Meaning, Lawful}
+use Rattle.ledger.proofs.Below.{plus_zero}
 use Rattle.limiter.specs.Positions.{lows, highs, change, at_cell}
 use Rattle.limiter.specs.Promise.{releases}
 use Rattle.limiter.proofs.Verdicts.{false_true, lez_true}
@@ -25,9 +26,6 @@ at_tells a s b k = elim (eqb_tells a b) [
   ]
   | inr t ↦ inr (ap (λ z. z && eqb s k) t.0, λ e _. t.1 e)
 ]
-
-plus_zero : (z : ℤ) → z ≡ (z +ℤ pos 0)
-plus_zero z = omega (arith, ints)
 
 module _ (v : Meaning) (i : Instruction) (q : Quote) where
   -- low is at most high after an instruction too
@@ -78,7 +76,7 @@ module _ (v : Meaning) (i : Instruction) (q : Quote) where
           ap (λ (c : Cell). c.held) e ∙ h ∙ ap (λ (c : Cell). c.held +ℤ (step i.action i.amount).held) (sym d) ∙ ap (λ b. (v.cell a s).held +ℤ cond b (step i.action i.amount).held (pos 0)) (sym t.0)
       | inr t ↦
           let e : w.cell a s ≡ v.cell a s = o.elsewhere a s t.1 in
-          ap (λ (c : Cell). c.held) e ∙ plus_zero (v.cell a s).held ∙ ap (λ b. (v.cell a s).held +ℤ cond b (step i.action i.amount).held (pos 0)) (sym t.0)
+          ap (λ (c : Cell). c.held) e ∙ sym (plus_zero (v.cell a s).held) ∙ ap (λ b. (v.cell a s).held +ℤ cond b (step i.action i.amount).held (pos 0)) (sym t.0)
     ]
 
 -- what a cancel or an execution leaves: a range no wider, in a cell where something rests

@@ -6,6 +6,7 @@ use Rattle.std.proofs.lemmas.Bool.{true≢false}
 use Rattle.ledger.specs.declared.faults.Fault.{Fault}
 use Rattle.ledger.specs.declared.faults.Reason.TheVariants as reason
 use Rattle.expiry.specs.declared.side.Side.{Side}
+use Rattle.expiry.proofs.Sums.{≤ℤ_chain}
 use Rattle.expiry.specs.declared.side.Side.TheVariants.{Long, Short}
 use Rattle.parties.specs.declared.level.Level.{Level}
 use Rattle.parties.specs.declared.level.Level.TheVariants.{Account, Holder, Group, Participant}
@@ -60,10 +61,7 @@ allowed_refuses m q l d f e = lez_false q m (require_false (le_z q m) _ f e)
 -- a lesser quantity passes where a greater one was within the limit
 pub allowed_lesser : (o : Option ℤ) (u w : ℤ) (l : Level) (d : Side) → is_some o ≡ true → Within u o → w ≤ℤ u → allowed o w l d ≡ Ok tt
 allowed_lesser None u w l d e h k = absurd (false_true e)
-allowed_lesser (Some m) u w l d e h k = ap (λ (b : Bool). require b (found_at reason.Limit l d)) (le_lez w m (chain w u m k h))
-  where
-    chain : (a b c : ℤ) → a ≤ℤ b → b ≤ℤ c → a ≤ℤ c
-    chain a b c x y = omega (arith, ints)
+allowed_lesser (Some m) u w l d e h k = ap (λ (b : Bool). require b (found_at reason.Limit l d)) (le_lez w m (≤ℤ_chain w u m k h))
 
 -- 0 is within every limit
 pub within_zero : (l : Option ℤ) (q : ℤ) → ((m : ℤ) → l ≡ Some m → pos 0 ≤ℤ m) → q ≡ pos 0 → Within q l

@@ -48,9 +48,13 @@ highs m (Some k) a s = cond (at_cell k a s) k.high (m.cell a s).high
 abbrev pub positions : {X : Type 0} → (X → Meaning) → State X → Option Change → Positions
 positions meaning s k = record { strikes = s.strikes; entries = s.entries; low = lows (meaning s.ledger) k; high = highs (meaning s.ledger) k }
 
+-- what account a adds to the party's number in a series: its own where it is the party's, or 0
+abbrev pub share : List Entry → Level → ℕ → Counts → ℕ → ℕ → ℤ
+share es level p x s a = cond (belongs es level p a) (x a s) (pos 0)
+
 -- a number for each account and series, summed over the party's accounts
 abbrev pub summed : List Entry → Level → ℕ → Counts → ℕ → ℤ
-summed es level p x s = sum_to (λ a. cond (belongs es level p a) (x a s) (pos 0)) (length es)
+summed es level p x s = sum_to (share es level p x s) (length es)
 
 -- the party's net receipt of the counts x at the price m/n: that of its accounts together
 unfoldable pub net_receipt : Positions → Level → ℕ → Counts → ℕ → ℕ → ℤ

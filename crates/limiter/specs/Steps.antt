@@ -86,13 +86,13 @@ module _ {X : Type 0} (meaning : X → Meaning) where
 
   -- the state that an obeyed call leaves, where the ledger is then y
   abbrev pub obeyed : State X → Call → X → State X
-  obeyed s (call.Strike k) y = record { phase = s.phase; strikes = s.strikes ++ k ∷ []; entries = s.entries; limits = s.limits; ledger = y }
-  obeyed s (call.Account e) y = record { phase = s.phase; strikes = s.strikes; entries = s.entries ++ e ∷ []; limits = s.limits; ledger = y }
-  obeyed s call.Start y = record { phase = Started; strikes = s.strikes; entries = s.entries; limits = s.limits; ledger = y }
-  obeyed s (call.Limit n) y = record { phase = s.phase; strikes = s.strikes; entries = s.entries; limits = with_limit s.limits n.level n.party n.side n.limit; ledger = y }
-  obeyed s (call.Instruct i) y = record { phase = s.phase; strikes = s.strikes; entries = s.entries; limits = s.limits; ledger = y }
-  obeyed s (call.Quantities n) y = record { phase = s.phase; strikes = s.strikes; entries = s.entries; limits = s.limits; ledger = y }
-  obeyed s (call.Tightest a) y = record { phase = s.phase; strikes = s.strikes; entries = s.entries; limits = s.limits; ledger = y }
+  obeyed s (call.Strike k) y = record s { strikes = s.strikes ++ k ∷ []; ledger = y }
+  obeyed s (call.Account e) y = record s { entries = s.entries ++ e ∷ []; ledger = y }
+  obeyed s call.Start y = record s { phase = Started; ledger = y }
+  obeyed s (call.Limit n) y = record s { limits = with_limit s.limits n.level n.party n.side n.limit; ledger = y }
+  obeyed s (call.Instruct i) y = record s { ledger = y }
+  obeyed s (call.Quantities n) y = record s { ledger = y }
+  obeyed s (call.Tightest a) y = record s { ledger = y }
 
   -- from s to t by a call with that verdict: declined, the first refusal and the state as it was
   abbrev pub Follows : State X → Call → Verdict → Answer → State X → Type 0

@@ -1,22 +1,16 @@
 -- What the code's sums hold. Assumes nothing.
-use Rattle.std.specs.Prelude.{◌≡◌, ℕ, ◌*◌, ◌<◌, cond, List, length, ℤ, pos, Some, None, Option}
+use Rattle.std.specs.Prelude.{◌≡◌, ℕ, ◌*◌, ◌<◌, length, Some, None, Option}
 use Rattle.expiry.specs.declared.side.Side.{Side}
 use Rattle.expiry.specs.declared.side.Side.TheVariants.{Long, Short}
 use Rattle.expiry.specs.declared.quantity.Quantity.{Quantity}
 use Rattle.expiry.specs.declared.quantity.Quantities.{Quantities}
 use Rattle.expiry.specs.Near.{Near}
 use Rattle.expiry.specs.Quantities.{at}
-use Rattle.parties.specs.declared.entry.Entry.{Entry}
 use Rattle.parties.specs.declared.level.Level.{Level}
-use Rattle.parties.specs.Directories.{belongs}
 use Rattle.limiter.specs.declared.change.Change.{Change}
 use Rattle.limiter.specs.declared.sums.Range.{Range}
 use Rattle.limiter.specs.declared.sums.Sums.{Sums}
-use Rattle.limiter.specs.Positions.{Counts, Positions, summed}
-
--- what one account adds to a party's number
-abbrev pub share : List Entry → Level → ℕ → Counts → ℕ → ℕ → ℤ
-share es level p x s a = cond (belongs es level p a) (x a s) (pos 0)
+use Rattle.limiter.specs.Positions.{Positions, summed}
 
 -- both ends lie within b of 0
 pub record NearBoth (b : ℕ) (r : Range) : Type 0 where

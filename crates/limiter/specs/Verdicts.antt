@@ -6,6 +6,7 @@ use Rattle.ledger.specs.declared.faults.Fault.{Fault}
 use Rattle.ledger.specs.declared.faults.Reason.{Reason}
 use Rattle.ledger.specs.declared.faults.Reason.TheVariants as reason
 use Rattle.ledger.specs.Actions.{proper}
+use Rattle.ledger.specs.Checks.{◌then◌}
 use Rattle.ledger.specs.Faults.{found, deeper}
 use Rattle.ledger.specs.Meanings.{Meaning}
 use Rattle.strikes.specs.Classes.{extended}
@@ -39,8 +40,7 @@ require b f = cond b (Ok tt) (Err f)
 -- one check before another
 infixr 20 ◌before◌
 abbrev pub ◌before◌ : Verdict → Verdict → Verdict
-Ok _ before v = v
-Err f before v = Err f
+a before b = a then (λ _. b)
 
 -- where on a path a check is: 2 × level + side
 abbrev pub spot : Level → Side → ℕ

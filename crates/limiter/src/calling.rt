@@ -4,7 +4,6 @@ ghost use Rattle.expiry.specs.Sides.{side_of_number};
 ghost use Rattle.strikes.specs.Classes.{strikes_of, extended};
 ghost use Rattle.parties.specs.Directories.{entries_of, enrolled};
 ghost use Rattle.parties.specs.Levels.{level_of_number};
-ghost use Rattle.parties.specs.Tables.{limiting};
 ghost use Rattle.limiter.specs.States.{state_of};
 ghost use Rattle.limiter.specs.Verdicts.{limit_verdict, instruct_verdict};
 ghost use Rattle.limiter.specs.Steps.{Follows, Step};
@@ -34,13 +33,6 @@ fn on_side(side: Side, quantities: Quantities) -> Quantity
         Side::Long => quantities.long,
         Side::Short => quantities.short,
     }
-}
-
-// Whether the limit is in its range.
-fn is_proper(n: NewLimit) -> bool
-    ensures { result ≡ limiting n.limit }
-{
-    is_limit(n.limit)
 }
 
 // Whether the limit is not below the quantity.
@@ -75,7 +67,7 @@ impl<L: Ledger> Limiter<L> {
         if n.party >= WIDTH {
             return Err(Fault::found(Reason::Unknown));
         }
-        if !is_proper(n) {
+        if !is_limit(n.limit) {
             return Err(Fault::found(Reason::Amount));
         }
         let quantity = on_side(side, self.party_quantities(level, n.party, None));

@@ -14,7 +14,7 @@ use strikes::Class;
 
 // A limiter after its calls, and their answers in order.
 #[derive(Drop)]
-pub struct Ran<L: Ledger> {
+pub struct Outcome<L: Ledger> {
     pub limiter: Limiter<L>,
     pub answers: Vec<Result<Reply, Fault>>,
 }
@@ -51,7 +51,7 @@ impl<L: Ledger> Limiter<L> {
 
 // Makes a limiter over the ledger and gives it each call in turn. Memory for the answers is had before the first call;
 // where there is none, the ledger comes back as it was.
-pub fn run<L: Ledger>(heap: Global, ledger: L, calls: &[Call]) -> Result<Ran<L>, AllocFailed<L>>
+pub fn run<L: Ledger>(heap: Global, ledger: L, calls: &[Call]) -> Result<Outcome<L>, AllocFailed<L>>
     ensures promised { IfOk result (λ x. Promised L.Ledger.meaning L.Ledger.keeps ledger calls.now x.answers.items (state_of x.limiter)) }
     ensures refused { IfErr result (λ y. y.value ≡ ledger) }
 {
@@ -62,5 +62,5 @@ pub fn run<L: Ledger>(heap: Global, ledger: L, calls: &[Call]) -> Result<Ran<L>,
     for call in calls {
         answers.push_reserved(limiter.call(*call));
     }
-    Ok(Ran { limiter, answers })
+    Ok(Outcome { limiter, answers })
 }

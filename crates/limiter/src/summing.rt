@@ -4,8 +4,8 @@ ghost use Rattle.expiry.specs.declared.side.Side.TheVariants.{Long, Short};
 ghost use Rattle.expiry.specs.Near.{Near};
 ghost use Rattle.parties.specs.Directories.{entries_of};
 ghost use Rattle.limiter.specs.States.{state_of};
-ghost use Rattle.limiter.specs.Positions.{lows, highs, summed, positions, Told};
-ghost use Rattle.limiter.specs.Sums.{share, NearBoth, InReach, Adds};
+ghost use Rattle.limiter.specs.Positions.{lows, highs, share, summed, positions, Told};
+ghost use Rattle.limiter.specs.Sums.{NearBoth, InReach, Adds};
 
 use crate::Limiter;
 use crate::change::Change;

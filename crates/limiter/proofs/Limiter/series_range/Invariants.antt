@@ -1,8 +1,8 @@
 use Rattle.std.proofs.Common.{◌≡◌, ◌*◌, ◌≤◌, length}
 use Rattle.expiry.specs.Expiry.{sum_to}
 use Rattle.parties.specs.Directories.{entries_of}
-use Rattle.limiter.specs.Positions.{lows, highs}
-use Rattle.limiter.specs.Sums.{share, NearBoth}
+use Rattle.limiter.specs.Positions.{lows, highs, share}
+use Rattle.limiter.specs.Sums.{NearBoth}
 use Rattle.limiter.proofs.Limiter.series_range.Given as goal
 
 -- the accounts so far are summed
