@@ -1,5 +1,6 @@
 use Rattle.std.proofs.Common.{◌≡◌, ◌<◌, false, length, sym, ◌∙◌, arith, length-set}
 use Rattle.std.proofs.lemmas.List.{take_more_set, length-take-le}
+use Rattle.std.proofs.lemmas.Bool.{true≢false}
 use Rattle.parties.specs.Directories.{entries_of, clashes}
 use Rattle.parties.proofs.Enrolling.{numbered_parts, numbered_set, enrolled_ok}
 use Rattle.parties.proofs.Directory.add.Goals as goal
@@ -23,4 +24,5 @@ returns c =
     record {
       answer = sym (enrolled_ok c.args.taken (entries_of d) c.args.entry (omega arith) (omega arith) (sym c.if-not-is_numbered.ensures) alone);
       left = take_more_set d.entries d.count _ (omega arith);
+      told = λ h. true≢false (sym (c.if-has_clash.ensures.tells.1 h));
     }
