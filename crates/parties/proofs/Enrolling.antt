@@ -1,12 +1,12 @@
 -- The accounts of a directory, and one more. Assumes nothing.
 use Rattle.std.proofs.Common.{◌≡◌, ℕ, zero, suc, ◌+◌, ◌<◌, true, false, ◌⊎◌, List, [], ◌∷◌, ◌++◌, length, take, set, Ok, Decides, sym, refl, ap, ◌∙◌, subst, inl, inr, arith, get_or-set_other, get_or-set_same}
-use Rattle.std.proofs.lemmas.List.{get_or-take, take_more}
+use Rattle.std.proofs.lemmas.List.{get_or-take, get_or_append_left, get_or_push, length_push, take_more}
 use Rattle.std.proofs.lemmas.Bool.{true≢false, cond-true, and_from, and_parts, lt-ltb, ltb-true, not_from_false, or_parts, or_from, or_left, or_right}
-use Rattle.std.proofs.lemmas.Bool.Decides.{eqb_tells, Decides-eqb, Decides-not, Decides-and, Decides-or, Decides-like}
+use Rattle.std.proofs.lemmas.Bool.Decides.{eqb_tells, leb_tells, Decides-eqb, Decides-not, Decides-and, Decides-or, Decides-like}
 use Rattle.parties.specs.declared.entry.Entry.{Entry}
 use Rattle.parties.specs.declared.level.Level.{Level}
 use Rattle.parties.specs.declared.level.Level.TheVariants.{Account, Holder, Group, Participant}
-use Rattle.parties.specs.Tables.{no_entry, entry_at, InNumbers, AllNumbered}
+use Rattle.parties.specs.Tables.{no_entry, entry_at, InNumbers, AllNumbered, OneGroup}
 use Rattle.parties.specs.Directories.{party, numbered, clash, clashes, Clashes, enrolled}
 
 -- an added account's party stands in the table
@@ -75,6 +75,44 @@ module _ (e : Entry) where
   pub clashes_tells : (es : List Entry) → Decides (clashes es e) (Clashes es e)
   clashes_tells [] = ((λ h. absurd (true≢false (sym h))), (λ h. let l = h.within in absurd (omega arith)))
   clashes_tells (x ∷ es) = Decides-like _ (first_or_later x es) (λ h. where_found x es h.account h.within (h.holder, h.group)) (Decides-or _ _ (clash_tells x) (clashes_tells es))
+
+-- the accounts, and one more whose holder is in no other group
+module _ (es : List Entry) (e : Entry) where
+  abbrev more : List Entry
+  more = es ++ (e ∷ [])
+
+  -- two accounts of one holder are of one group
+  abbrev Together : Entry → Entry → Type 0
+  Together x y = x.holder ≡ y.holder → x.group ≡ y.group
+
+  -- an account of those is one of before, or the new one
+  abbrev Placed : ℕ → Type 0
+  Placed a = ((a < length es) × (entry_at more a ≡ entry_at es a)) ⊎ (entry_at more a ≡ e)
+
+  placed : (a : ℕ) → a < length more → Placed a
+  placed a l = elim (leb_tells (length es) a) [
+    | inl t ↦ let n = length_push es e in inr (get_or_push es e no_entry a (omega (arith, n, l, t.1)))
+    | inr t ↦ inl (t.1, get_or_append_left es (e ∷ []) no_entry a t.1)
+  ]
+
+  -- the new one and one of before
+  apart_from : (Clashes es e → ⊥) → (a : ℕ) → a < length es → Together (entry_at es a) e
+  apart_from alone a l h = elim (eqb_tells (entry_at es a).group e.group) [
+    | inl t ↦ t.1
+    | inr t ↦ absurd (alone (record { account = a; within = l; holder = h; group = t.1 }))
+  ]
+
+  read_as : (x y u v : Entry) → x ≡ u → y ≡ v → Together u v → Together x y
+  read_as x y u v p q t = subst (λ z. Together z y) (sym p) (subst (λ z. Together u z) (sym q) t)
+
+  any_two : OneGroup es → (Clashes es e → ⊥) → (a b : ℕ) → Placed a → Placed b → Together (entry_at more a) (entry_at more b)
+  any_two all alone a b (inl s) (inl t) = read_as _ _ _ _ s.1 t.1 (all a b s.0 t.0)
+  any_two all alone a b (inl s) (inr t) = read_as _ _ _ _ s.1 t (apart_from alone a s.0)
+  any_two all alone a b (inr s) (inl t) = read_as _ _ _ _ s t.1 (λ h. sym (apart_from alone b t.0 (sym h)))
+  any_two all alone a b (inr s) (inr t) = read_as _ _ _ _ s t (λ h. refl)
+
+  pub grouped_more : OneGroup es → (Clashes es e → ⊥) → OneGroup more
+  grouped_more all alone a b l m h = any_two all alone a b (placed a l) (placed b m) h
 
 -- nothing stands against the account
 pub enrolled_ok : (taken : ℕ) (es : List Entry) (e : Entry) → length es < taken → length es < 64 → numbered e ≡ true → clashes es e ≡ false → enrolled taken es e ≡ Ok tt

@@ -57,3 +57,8 @@ enrolled taken es e = unless (nat_lt (length es) taken && nat_lt (length es) 64)
 abbrev pub Enrolled : Directory → Directory → Entry → Result (Unit {0}) Fault → Type 0
 Enrolled c d e (Ok _) = entries_of d ≡ entries_of c ++ (e ∷ [])
 Enrolled c d e (Err f) = d ≡ c
+
+-- taken, no account has the holder in another group; refused for the group, some account has
+abbrev pub Grouped : List Entry → Entry → Result (Unit {0}) Fault → Type 0
+Grouped es e (Ok _) = Clashes es e → ⊥
+Grouped es e (Err f) = f.reason ≡ GroupClash → Clashes es e

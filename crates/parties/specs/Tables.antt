@@ -1,5 +1,5 @@
 -- What holds of the tables of accounts and limits. Assumes nothing.
-use Rattle.std.specs.Prelude.{◌≡◌, ℕ, ◌<◌, Bool, true, ◌&&◌, List, ℤ, pos, Some, None, Option, int_le, slice_index_or}
+use Rattle.std.specs.Prelude.{◌≡◌, ℕ, ◌<◌, Bool, true, ◌&&◌, List, ℤ, pos, length, Some, None, Option, int_le, slice_index_or}
 use Rattle.parties.specs.declared.entry.Entry.{Entry}
 use Rattle.parties.specs.declared.record.LimitRecord.{LimitRecord}
 
@@ -16,6 +16,10 @@ InNumbers e = (e.holder < 64) × (e.group < 64) × (e.participant < 64)
 
 abbrev pub AllNumbered : List Entry → Type 0
 AllNumbered es = (a : ℕ) → InNumbers (entry_at es a)
+
+-- a holder stays in one group
+abbrev pub OneGroup : List Entry → Type 0
+OneGroup es = (a b : ℕ) → a < length es → b < length es → (entry_at es a).holder ≡ (entry_at es b).holder → (entry_at es a).group ≡ (entry_at es b).group
 
 -- a limit is 0 to 10^17
 abbrev pub limiting : ℤ → Bool

@@ -1,6 +1,6 @@
 // A directory is made empty, and extended by one account at a time.
 ghost use Rattle.std.specs.Prelude.{◌≡◌, ℕ, ◌<◌, ◌&&◌, [], length, Decides, nat_lt};
-ghost use Rattle.parties.specs.Directories.{entries_of, party, belongs, numbered, clash, clashes, Clashes, enrolled, Enrolled, PartyAt};
+ghost use Rattle.parties.specs.Directories.{entries_of, party, belongs, numbered, clash, clashes, Clashes, enrolled, Enrolled, Grouped, PartyAt};
 
 use crate::entry::Entry;
 use crate::level::Level;
@@ -90,6 +90,7 @@ impl Directory {
     pub fn add(&mut self, taken: usize, entry: Entry) -> Result<(), Fault>
         ensures answer { result ≡ enrolled taken (entries_of self.old) entry }
         ensures left { Enrolled self.old self.new entry result }
+        ensures told { Grouped (entries_of self.old) entry result }
     {
         if self.count >= taken || self.count >= WIDTH {
             return Err(Fault::found(Reason::DirectoryFull));

@@ -1,8 +1,8 @@
 // Who stands behind an account, and the limit of each party.
 #![tactic(auto)]
 
-ghost use Rattle.std.specs.Prelude.{◌≡◌, ℕ, ◌≤◌, length};
-ghost use Rattle.parties.specs.Tables.{AllNumbered, AllProper};
+ghost use Rattle.std.specs.Prelude.{◌≡◌, ℕ, ◌≤◌, length, take};
+ghost use Rattle.parties.specs.Tables.{AllNumbered, OneGroup, AllProper};
 
 mod accounts;
 pub mod bounds;
@@ -24,6 +24,7 @@ pub struct Directory {
     ghost whole: { length entries ≡ 64 },
     ghost few: { count ≤ 64 },
     ghost numbered: { AllNumbered entries },
+    ghost grouped: { OneGroup (take count entries) },
 }
 
 // One limit record for each party: 64 accounts, then 64 holders, 64 groups and 64 participants.

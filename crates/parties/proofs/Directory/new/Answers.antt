@@ -8,4 +8,5 @@ invariant_of-result c = record {
   whole = refl;
   few = omega arith;
   numbered = λ a. subst InNumbers (sym (all_same 64 a no_entry)) (omega arith, omega arith, omega arith);
+  grouped = λ a b l m h. absurd (omega arith);
 }
