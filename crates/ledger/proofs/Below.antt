@@ -1,5 +1,6 @@
 -- The ledger below after a layer passed an instruction on. Assumes nothing.
 use Rattle.std.proofs.Common.{◌≡◌, ℕ, ℤ, pos, negsuc, ◌+ℤ◌, ◌≤ℤ◌, Some, None, Ok, Err, Option, sym, ap, ◌∙◌, subst, arith, w64, SFits}
+use Rattle.std.specs.Prelude.{IfOk}
 use Rattle.std.proofs.lemmas.Int.{ints, clamps}
 use Rattle.ledger.specs.declared.actions.Action.TheVariants.{Fill}
 use Rattle.ledger.specs.declared.cells.Cell.{Cell}
@@ -55,6 +56,11 @@ module _ (m : Meaning) (lawful : Lawful m) where
   pub asked_ranged : (a s : ℕ) (d : Option Instruction) (q : Quote) → asked m a s d ≡ Ok q → Ranged q
   asked_ranged a s None q e = (still_quotes a s q e).ranged
   asked_ranged a s (Some j) q e = (asked_quotes j q e).ranged
+
+  -- what is asked comes up in its range, if it comes up as a quote
+  pub answer_ranged : (a s : ℕ) (d : Option Instruction) (r : Answer) → r ≡ asked m a s d → IfOk r (λ q. Ranged q)
+  answer_ranged a s d (Ok q) e = asked_ranged a s d q (sym e)
+  answer_ranged a s d (Err f) e = tt
 
 module _ {X : Type 0} (meaning : X → Meaning) (x y : X) where
   -- where something was sent and answered by m

@@ -1,10 +1,9 @@
 -- The nine actions: their letters, the amounts that they take, and what they move. Assumes nothing.
-use Rattle.std.specs.Prelude.{◌≡◌, ℕ, Bool, true, false, cond, ◌&&◌, ◌||◌, ℤ, pos, negsuc, neg_ℤ, ◌≤ℤ◌, Ok, Err, Result, ◌≢◌, int_le, int_lt}
+use Rattle.std.specs.Prelude.{ℕ, Bool, true, false, cond, ◌&&◌, ◌||◌, ℤ, pos, negsuc, neg_ℤ, ◌≤ℤ◌, Result, int_le, int_lt}
 use Rattle.ledger.specs.declared.actions.Action.{Action}
 use Rattle.ledger.specs.declared.actions.Action.TheVariants.{Fill, PlaceBuy, PlaceSell, CancelBuy, CancelSell, ExecuteBuy, ExecuteSell, AddCover, TakeCover}
-use Rattle.ledger.specs.declared.faults.Reason.TheVariants.{Unknown}
 use Rattle.ledger.specs.declared.faults.Fault.{Fault}
-use Rattle.ledger.specs.Faults.{found}
+use Rattle.ledger.specs.Faults.{Numbered}
 
 -- the letter of an action, by its code: F B S C D E G K U
 abbrev pub letter : Action → ℕ
@@ -20,8 +19,7 @@ letter TakeCover = 85
 
 -- the action of a letter; a letter of none is unknown
 abbrev pub Lettered : ℕ → Result Action Fault → Type 0
-Lettered c (Ok a) = letter a ≡ c
-Lettered c (Err f) = (f ≡ found Unknown) × ((a : Action) → letter a ≢ c)
+Lettered = Numbered letter
 
 abbrev pub is_fill : Action → Bool
 is_fill Fill = true

@@ -33,10 +33,14 @@ held_cells held = held_below held 4096
 abbrev pub is_full : ℕ → (ℕ → ℕ → ℤ) → Instruction → Bool
 is_full capacity held i = not (nonzero (held i.account i.series)) && held_cells held == capacity
 
--- the answer of every book: it only fills, within reach, and while it has room
+-- the answer of a book whose cell holds so much: it only fills, within reach, and while it is not full
+abbrev pub filled : ℕ → ℤ → Bool → Instruction → Answer
+filled taken before full i =
+    checked taken i then (λ _. unless (is_fill i.action) NoTaker (unless (within (before +ℤ i.amount)) Reach (unless (not full) Full (Ok (flat (before +ℤ i.amount))))))
+
+-- the answer of every book, by its counts
 abbrev pub book_answer : ℕ → ℕ → (ℕ → ℕ → ℤ) → Instruction → Answer
-book_answer taken capacity held i =
-    checked taken i then (λ _. unless (is_fill i.action) NoTaker (unless (within (held i.account i.series +ℤ i.amount)) Reach (unless (not (is_full capacity held i)) Full (Ok (flat (held i.account i.series +ℤ i.amount))))))
+book_answer taken capacity held i = filled taken (held i.account i.series) (is_full capacity held i) i
 
 -- a book by its counts
 abbrev pub book_meaning : ℕ → ℕ → (ℕ → ℕ → ℤ) → Meaning

@@ -1,5 +1,5 @@
 -- The published number of each reason, and a refusal as it is counted through the layers. Assumes nothing.
-use Rattle.std.specs.Prelude.{ℕ, ◌+◌, min}
+use Rattle.std.specs.Prelude.{◌≡◌, ℕ, ◌+◌, min, Ok, Err, Result, ◌≢◌}
 use Rattle.ledger.specs.declared.faults.Reason.{Reason}
 use Rattle.ledger.specs.declared.faults.Reason.TheVariants.{Phase, ClassFull, Strike, DirectoryFull, GroupClash, Used, Unknown, Amount, NoTaker, Rest, NotACall, Reach, Full, NoLimit, Limit, InUse, Line}
 use Rattle.ledger.specs.declared.faults.Fault.{Fault}
@@ -26,6 +26,11 @@ number Line = 17
 -- a refusal by its finder
 abbrev pub found : Reason → Fault
 found r = record { reason = r; depth = 0; spot = 0 }
+
+-- what a number is the number of: that thing; the number of no such thing is unknown
+abbrev pub Numbered : {A : Type 0} → (A → ℕ) → ℕ → Result A Fault → Type 0
+Numbered number n (Ok x) = number x ≡ n
+Numbered {A = A} number n (Err f) = (f ≡ found Unknown) × ((x : A) → number x ≢ n)
 
 -- a line refused at a column
 abbrev pub misfit : ℕ → Fault

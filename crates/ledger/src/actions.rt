@@ -1,5 +1,4 @@
 // What an instruction can do.
-ghost use Rattle.std.specs.Prelude.{◌≡◌, ℕ};
 ghost use Rattle.ledger.specs.Actions.{Lettered};
 
 use crate::faults::{Fault, Reason};
@@ -17,11 +16,13 @@ pub enum Action {
     TakeCover,
 }
 
-impl Action {
-    // The action of a letter.
-    pub fn from_letter(letter: char) -> Result<Action, Fault>
-        ensures { Lettered letter result }
-    {
+// The action of a letter.
+impl TryFrom<char> for Action {
+    type Error = Fault;
+
+    ghost try_from_gives = { Lettered };
+
+    fn try_from(letter: char) -> Result<Action, Fault> {
         match letter {
             'F' => Ok(Action::Fill),
             'B' => Ok(Action::PlaceBuy),

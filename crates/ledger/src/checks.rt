@@ -16,10 +16,7 @@ pub const WIDTH: usize = 64;
 pub fn is_fill(action: Action) -> bool
     ensures { result ≡ is_fill action }
 {
-    match action {
-        Action::Fill => true,
-        _ => false,
-    }
+    matches!(action, Action::Fill)
 }
 
 pub fn is_within(n: i64) -> bool

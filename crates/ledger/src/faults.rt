@@ -2,68 +2,50 @@
 ghost use Rattle.std.specs.Prelude.{◌≡◌, ℕ};
 ghost use Rattle.ledger.specs.Faults.{number, found, misfit, deeper};
 
+// Each reason with its published number.
 #[derive(Clone, Copy, PartialEq, Eq, Debug)]
 pub enum Reason {
     // The call belongs to the other phase, or the start came twice.
-    Phase,
+    Phase = 1,
     // One strike more than a class has room for.
-    ClassFull,
+    ClassFull = 2,
     // A strike out of range, or not above the last.
-    Strike,
+    Strike = 3,
     // One account more than the ledger takes.
-    DirectoryFull,
+    DirectoryFull = 4,
     // The holder is in another group.
-    GroupClash,
+    GroupClash = 5,
     // A start over a ledger that is not unused.
-    Used,
+    Used = 6,
     // The letter, account, series, level, party or side does not exist here.
-    Unknown,
+    Unknown = 7,
     // The amount is outside its action's range, or a limit outside its own.
-    Amount,
+    Amount = 8,
     // The action reached a book, which only fills.
-    NoTaker,
+    NoTaker = 9,
     // More than rests, or than is covered.
-    Rest,
+    Rest = 10,
     // Cover for a put.
-    NotACall,
+    NotACall = 11,
     // A count or a cover would be out of reach.
-    Reach,
+    Reach = 12,
     // One more held cell than the book has room for.
-    Full,
+    Full = 13,
     // A limit on the path is missing.
-    NoLimit,
+    NoLimit = 14,
     // A quantity would exceed its limit.
-    Limit,
+    Limit = 15,
     // A new limit is below the quantity.
-    InUse,
+    InUse = 16,
     // The line is not an instruction's.
-    Line,
+    Line = 17,
 }
 
-impl Reason {
-    // The published number.
-    pub fn number(self) -> u8
-        ensures { result ≡ number self }
-    {
-        match self {
-            Reason::Phase => 1,
-            Reason::ClassFull => 2,
-            Reason::Strike => 3,
-            Reason::DirectoryFull => 4,
-            Reason::GroupClash => 5,
-            Reason::Used => 6,
-            Reason::Unknown => 7,
-            Reason::Amount => 8,
-            Reason::NoTaker => 9,
-            Reason::Rest => 10,
-            Reason::NotACall => 11,
-            Reason::Reach => 12,
-            Reason::Full => 13,
-            Reason::NoLimit => 14,
-            Reason::Limit => 15,
-            Reason::InUse => 16,
-            Reason::Line => 17,
-        }
+impl From<Reason> for u8 {
+    ghost from_gives = { λ reason n. n ≡ number reason };
+
+    fn from(reason: Reason) -> u8 {
+        reason as u8
     }
 }
 
@@ -92,9 +74,8 @@ impl Fault {
         ensures { result ≡ misfit column }
     {
         Fault {
-            reason: Reason::Line,
-            depth: 0,
             spot: column,
+            ..Fault::found(Reason::Line)
         }
     }
 
@@ -103,9 +84,8 @@ impl Fault {
         ensures { result ≡ deeper self }
     {
         Fault {
-            reason: self.reason,
             depth: self.depth.saturating_add(1),
-            spot: self.spot,
+            ..self
         }
     }
 }

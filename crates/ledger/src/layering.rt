@@ -26,18 +26,8 @@ pub fn ask_below<L: Ledger>(
     ensures ranged { IfOk result (λ q. Ranged q) }
 {
     match down {
-        None => {
-            let cell = read_below(below, account, series);
-            Ok(Quote {
-                held: cell.held,
-                low: cell.low,
-                high: cell.high,
-            })
-        }
-        Some(j) => match below.quote(j) {
-            Ok(q) => Ok(q),
-            Err(f) => Err(f.deeper()),
-        },
+        None => Ok(Quote::from(read_below(below, account, series))),
+        Some(j) => below.quote(j).map_err(Fault::deeper),
     }
 }
 

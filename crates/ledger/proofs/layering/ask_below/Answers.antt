@@ -1,7 +1,8 @@
-use Rattle.std.proofs.Common.{sym, rules}
+use Rattle.std.proofs.Common.{Some, arith}
+use Rattle.std.proofs.lemmas.Grind.{common_steps}
+use Rattle.ledger.proofs.Below.{answer_ranged}
 use Rattle.ledger.proofs.layering.ask_below.Goals as goal
 
-pub returns-in-Ok : goal.returns-in-Ok
-returns-in-Ok g c =
-    let l = (g.met.L.Ledger.lawful c.args.below.now).quotes c.in-Some.j c.in-Ok.q (sym c.in-Ok.ensures) in
-    search rules
+pub returns-in-Some-clause-ranged : goal.returns-in-Some-clause-ranged
+returns-in-Some-clause-ranged g c =
+    answer_ranged _ (g.met.L.Ledger.lawful c.args.below.now) c.args.account c.args.series (Some c.in-Some.j) _ (grind (arith, common_steps))
