@@ -9,15 +9,16 @@ use parties::entry::Entry;
 use parties::level::Level;
 use strikes::strike::Strike;
 
-// A party by the numbers of its level and of itself, whether there is such a party or not.
-#[derive(Clone, Copy)]
+// A party by the numbers of its level and of itself, whether there is such a party or not: a call carries plain numbers, and
+// the limiter itself refuses those that it does not know.
+#[derive(Clone, Copy, PartialEq, Eq, Debug)]
 pub struct PartyNumber {
     pub level: usize,
     pub party: usize,
 }
 
 // A limit for the side of a party, each by its number.
-#[derive(Clone, Copy)]
+#[derive(Clone, Copy, PartialEq, Eq, Debug)]
 pub struct NewLimit {
     pub level: usize,
     pub party: usize,
@@ -25,8 +26,8 @@ pub struct NewLimit {
     pub limit: i64,
 }
 
-// Numbers of any size: the limiter itself answers those that it does not know.
-#[derive(Clone, Copy)]
+// Numbers in calls are of any size.
+#[derive(Clone, Copy, PartialEq, Eq, Debug)]
 pub enum Call {
     // One strike more.
     Strike(Strike),
@@ -43,7 +44,7 @@ pub enum Call {
 }
 
 // Where the least headroom on a path is, and how much it is.
-#[derive(Clone, Copy)]
+#[derive(Clone, Copy, PartialEq, Eq, Debug)]
 pub struct Tightest {
     pub level: Level,
     pub side: Side,
@@ -51,7 +52,7 @@ pub struct Tightest {
 }
 
 // What an obeyed call is answered with.
-#[derive(Clone, Copy)]
+#[derive(Clone, Copy, PartialEq, Eq, Debug)]
 pub enum Reply {
     Done,
     Quantities(Quantities),

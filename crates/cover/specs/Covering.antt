@@ -1,8 +1,8 @@
 -- The cover layer: assets set aside for the delivery of calls, above a ledger. Assumes nothing.
-use Rattle.std.specs.Prelude.{◌≡◌, ℕ, Bool, true, false, cond, ℤ, pos, ◌+ℤ◌, ◌≤ℤ◌, Some, None, Ok, Option, int_le, int_lt}
+use Rattle.std.specs.Prelude.{ℕ, Bool, true, false, cond, ℤ, pos, ◌+ℤ◌, Some, None, Ok, Option, int_le, int_lt}
 use Rattle.std.specs.Int.{int_min}
 use Rattle.ledger.specs.declared.actions.Action.{Action}
-use Rattle.ledger.specs.declared.actions.Action.TheVariants.{Fill, PlaceBuy, PlaceSell, CancelBuy, CancelSell, ExecuteBuy, ExecuteSell, AddCover, TakeCover}
+use Rattle.ledger.specs.declared.actions.Action.TheVariants.{AddCover, TakeCover}
 use Rattle.ledger.specs.declared.faults.Reason.TheVariants.{Rest, Reach, NotACall}
 use Rattle.ledger.specs.declared.cells.Cell.{Cell}
 use Rattle.ledger.specs.declared.cells.Quote.{Quote}
@@ -13,15 +13,16 @@ use Rattle.ledger.specs.Checks.{Answer, checked, unless, ◌then◌}
 use Rattle.ledger.specs.Meanings.{Meaning}
 use Rattle.ledger.specs.Layers.{asked}
 use Rattle.tables.specs.declared.Table.{Table}
-use Rattle.tables.specs.Tables.{at, rows_of, AllZero}
+use Rattle.tables.specs.Bounded.{UpTo, Bounded}
+use Rattle.tables.specs.Tables.{at, AllZero}
 
 -- the cover that a cell may have
 abbrev pub CoverIn : ℤ → Type 0
-CoverIn k = (pos 0 ≤ℤ k) × (k ≤ℤ reach)
+CoverIn = UpTo reach
 
 -- a table of cover, with a row for each account
 abbrev pub Covered : Table → Type 0
-Covered t = (rows_of t ≡ 64) × ((a s : ℕ) → CoverIn (at t a s))
+Covered = Bounded reach
 
 -- a count with the cover k: below 0 it becomes the lesser of 0 and itself plus the cover
 unfoldable pub with_cover : ℤ → ℤ → ℤ
@@ -37,15 +38,9 @@ cover_quote q k = record { held = q.held; low = with_cover k q.low; high = with_
 
 -- the layer's own actions
 abbrev pub is_cover : Action → Bool
-is_cover Fill = false
-is_cover PlaceBuy = false
-is_cover PlaceSell = false
-is_cover CancelBuy = false
-is_cover CancelSell = false
-is_cover ExecuteBuy = false
-is_cover ExecuteSell = false
 is_cover AddCover = true
 is_cover TakeCover = true
+is_cover _ = false
 
 -- what is sent down: nothing by an action of its own, all else is passed on
 abbrev pub cover_sent : Action → Instruction → Option Instruction

@@ -4,7 +4,7 @@ ghost use Rattle.ledger.specs.Actions.{Within};
 ghost use Rattle.ledger.specs.Cells.{Ranged};
 ghost use Rattle.ledger.specs.Layers.{Passed};
 ghost use Rattle.ledger.specs.Meanings.{Instructed};
-ghost use Rattle.cover.specs.Covering.{with_cover, cover_quote, cover_sent, fitting, cover_after, CoverIn};
+ghost use Rattle.cover.specs.Covering.{with_cover, cover_quote, is_cover, cover_sent, fitting, cover_after, CoverIn};
 ghost use Rattle.cover.specs.Keeping.{layer_meaning, LayerKeeps};
 ghost use Rattle.cover.specs.CoverFacts.{cover_lawful};
 
@@ -17,6 +17,7 @@ use ledger::layering::{ask_below, read_below, send_below};
 use ledger::ledgers::Ledger;
 
 // The count with that much cover.
+#[tactic(auto, unfolding(crate::specs::Covering::with_cover))]
 fn with_cover(cover: i64, n: i64) -> i64
     requires { (Within n) × (CoverIn cover) }
     ensures { result ≡ with_cover cover n }
@@ -30,34 +31,36 @@ fn covered(q: Quote, cover: i64) -> Quote
     ensures { result ≡ cover_quote q cover }
 {
     Quote {
-        held: q.held,
         low: with_cover(cover, q.low),
         high: with_cover(cover, q.high),
+        ..q
     }
+}
+
+// Whether the action is the layer's own.
+fn is_cover(action: Action) -> bool
+    ensures { result ≡ is_cover action }
+{
+    matches!(action, Action::AddCover | Action::TakeCover)
 }
 
 // Cover is for calls, which have even series.
 fn is_fitting(i: Instruction) -> bool
     ensures { result ≡ fitting i.action i.series }
 {
-    match i.action {
-        Action::AddCover | Action::TakeCover => i.series % 2 == 0,
-        _ => true,
-    }
+    !is_cover(i.action) || i.series % 2 == 0
 }
 
 // What is sent to the ledger below, if anything is.
 fn sent(i: Instruction) -> Option<Instruction>
     ensures { result ≡ cover_sent i.action i }
 {
-    match i.action {
-        Action::AddCover | Action::TakeCover => None,
-        _ => Some(i),
-    }
+    if is_cover(i.action) { None } else { Some(i) }
 }
 
 impl<L: Ledger> CoverLayer<L> {
-    // The cover that would be left: less than 0 where more is taken than is covered.
+    // The cover that would be left: less than 0 where more is taken than is covered. That the amount is checked stays a
+    // clause: a type of checked instructions would be a second one beside the public `Instruction`.
     fn cover_after(&self, i: Instruction) -> i64
         requires { Within i.amount }
         ensures { result ≡ cover_after self.now.cover i }
@@ -93,14 +96,7 @@ impl<L: Ledger> Ledger for CoverLayer<L> {
     fn cell(&self, account: usize, series: usize) -> Cell {
         let below = read_below(&self.below, account, series);
         let cover = self.cover.at(account, series);
-        let quote = covered(
-            Quote {
-                held: below.held,
-                low: below.low,
-                high: below.high,
-            },
-            cover,
-        );
+        let quote = covered(Quote::from(below), cover);
         Cell {
             low: quote.low,
             high: quote.high,

@@ -12,6 +12,8 @@ use tables::Table;
 pub mod carrying;
 
 // How much of each cell of the ledger below is covered.
+// Not one type with the order layer: their rules differ, and what is the same is five short functions; a trait of the rules,
+// with its laws, would be longer.
 #[derive(Drop)]
 pub struct CoverLayer<L: Ledger> {
     below: L,

@@ -1,4 +1,4 @@
 pub mod Steps
 pub mod Listings
 pub mod Opening
-pub mod Slices
+pub mod Cutting

@@ -1,100 +1,84 @@
--- The list of held cells, one more at a time. Assumes nothing.
-use Rattle.std.proofs.Common.{◌≡◌, ℕ, ◌+◌, ◌<◌, ◌≤◌, List, [], ◌∷◌, ◌++◌, map, length, get_or, take, pos, Some, None, Option, sym, refl, ap, ◌∙◌, subst, inl, ⊎_elim, arith}
+-- The list of held cells, from the last to the first. Assumes nothing.
+use Rattle.std.proofs.Common.{◌≡◌, ℕ, zero, suc, ◌+◌, ◌<◌, ◌≤◌, List, [], ◌∷◌, ◌++◌, map, length, get_or, take, pos, None, Ok, Err, IfOk, Result, Vec, vec_items, ◌≢◌, sym, ap, ◌∙◌, subst, inl, inr, arith}
+use Rattle.std.specs.Iterator.{Yields}
 use Rattle.std.proofs.lemmas.Bool.{cases_lt}
-use Rattle.std.proofs.lemmas.List.{append_assoc, length_push, get_or_push, get_or_append_left, map_push, take_more}
+use Rattle.std.proofs.lemmas.Iterator.{IsCollectResult}
+use Rattle.std.proofs.lemmas.List.{append_assoc, map_push, take_more}
 use Rattle.ledger.specs.declared.cells.Cell.{Cell}
 use Rattle.ledger.specs.declared.books.Holding.{Holding}
-use Rattle.ledger.specs.Meanings.{Meaning, Lawful}
-use Rattle.ledger.specs.Listing.{place, Held, Next, NoneHeld, FirstHeld}
+use Rattle.ledger.specs.Listing.{place, Held, Next, NoneHeld}
+use Rattle.ledger.specs.Meanings.{Meaning}
 use Rattle.lines.specs.Output.{SheetLine}
 use Rattle.lines.specs.declared.writing.OutputLine.{OutputLine}
 use Rattle.day.specs.Days.{buffer}
 use Rattle.day.specs.Runs.{Each}
-use Rattle.day.specs.Sheets.{nothing, nth, place_of, InGrid, Listed, Listing, Adds}
+use Rattle.day.specs.declared.sheets.HeldCells.{HeldCells}
+use Rattle.day.specs.Sheets.{nth, place_of, GivesNext, Listed, Listing, Adds}
 use Rattle.day.proofs.Steps.{each_more}
 
--- a held cell has an account and a series below 64
-pub inside : (m : Meaning) → Lawful m → (from : ℕ) (r : Option Holding) → FirstHeld m.cell from r → InGrid r
-inside m lawful from None h = tt
-inside m lawful from (Some h) n = (
-  ⊎_elim (λ lt. lt) (λ ge. absurd (n.held.held (n.held.count ∙ ap (λ (c : Cell). c.held) (lawful.beyond h.account h.series (inl ge))))) (cases_lt h.account 64),
-  n.held.series,
-)
-
--- the held cells below a place
-pub record Before (cell : ℕ → ℕ → Cell) (from : ℕ) (hs : List Holding) : Type 0 where
+-- the held cells from a place on
+record From (cell : ℕ → ℕ → Cell) (from : ℕ) (hs : List Holding) : Type 0 where
   pub rising : (j k : ℕ) → j < k → k < length hs → place_of (nth hs j) < place_of (nth hs k)
   pub held : (k : ℕ) → k < length hs → Held cell (nth hs k)
-  pub all : (a s : ℕ) → s < 64 → place a s < from → ((cell a s).held ≡ pos 0 → ⊥) → Listed hs a s
-  pub below : (k : ℕ) → k < length hs → place_of (nth hs k) < from
+  pub all : (a s : ℕ) → s < 64 → from ≤ place a s → (cell a s).held ≢ pos 0 → Listed hs a s
+  pub above : (k : ℕ) → k < length hs → from ≤ place_of (nth hs k)
 
-pub before_none : (cell : ℕ → ℕ → Cell) → Before cell 0 []
-before_none cell = record {
+from_none : (cell : ℕ → ℕ → Cell) (from : ℕ) → NoneHeld cell (λ p. from ≤ p) → From cell from []
+from_none cell from none = record {
   rising = λ j k l m. absurd (omega arith);
   held = λ k l. absurd (omega arith);
-  all = λ a s l m n. absurd (omega arith);
-  below = λ k l. absurd (omega arith);
+  all = λ a s l m n. absurd (n (none a s l m));
+  above = λ k l. absurd (omega arith);
 }
 
-module _ (cell : ℕ → ℕ → Cell) (from : ℕ) (hs : List Holding) (before : Before cell from hs) where
-  -- where no more are held, those are all
-  pub before_all : NoneHeld cell (λ p. from ≤ p) → Listing cell hs
-  before_all none = record {
-    rising = before.rising;
-    held = before.held;
-    all = λ a s l n. ⊎_elim (λ lt. before.all a s l lt n) (λ ge. absurd (n (none a s l ge))) (cases_lt (place a s) from);
-  }
+-- before the cells behind it stands the first of all
+module _ (cell : ℕ → ℕ → Cell) (from : ℕ) (h : Holding) (hs : List Holding) (next : Next cell from h) (rest : From cell (place_of h + 1) hs) where
+  rising_more : (j k : ℕ) → j < k → k < length (h ∷ hs) → place_of (nth (h ∷ hs) j) < place_of (nth (h ∷ hs) k)
+  rising_more j zero l m = absurd (omega arith)
+  rising_more zero (suc k) l m = omega (arith, rest.above k (omega arith))
+  rising_more (suc j) (suc k) l m = rest.rising j k (omega arith) (omega arith)
 
-  module _ (h : Holding) (next : Next cell from h) where
-    -- an index of the longer list is one of the shorter, or the last
-    split : (P : ℕ → Holding → Type 0) → ((k : ℕ) → k < length hs → P k (nth hs k)) → P (length hs) h → (k : ℕ) → k < length (hs ++ h ∷ []) → P k (nth (hs ++ h ∷ []) k)
-    split P old new k l =
-        let long = length_push hs h in
-        ⊎_elim
-        (λ lt. subst (P k) (sym (get_or_append_left hs (h ∷ []) nothing k lt)) (old k lt))
-        (λ ge.
-        let e : length hs ≡ k = omega arith in
-        subst (P k) (sym (get_or_push hs h nothing k e)) (subst (λ n. P n h) e new))
-        (cases_lt k (length hs))
+  held_more : (k : ℕ) → k < length (h ∷ hs) → Held cell (nth (h ∷ hs) k)
+  held_more zero l = next.held
+  held_more (suc k) l = rest.held k (omega arith)
 
-    keep : (a s : ℕ) → Listed hs a s → Listed (hs ++ h ∷ []) a s
-    keep a s i =
-        let long = length_push hs h in
-        let same = get_or_append_left hs (h ∷ []) nothing i.index i.within in
-        record {
-          index = i.index;
-          within = (let w = i.within in omega arith);
-          account = ap (λ (g : Holding). g.account) same ∙ i.account;
-          series = ap (λ (g : Holding). g.series) same ∙ i.series;
-        }
+  above_more : (k : ℕ) → k < length (h ∷ hs) → from ≤ place_of (nth (h ∷ hs) k)
+  above_more zero l = next.onward
+  above_more (suc k) l = let o = next.onward in omega (arith, rest.above k (omega arith))
 
-    pub before_more : Before cell (place_of h + 1) (hs ++ h ∷ [])
-    before_more =
-        let long = length_push hs h in
-        let last = get_or_push hs h nothing (length hs) refl in
-        record {
-          rising = λ j k l m.
-              split (λ n g. (i : ℕ) → i < n → place_of (nth (hs ++ h ∷ []) i) < place_of g)
-              (λ n p i q. subst (λ g. place_of g < place_of (nth hs n)) (sym (get_or_append_left hs (h ∷ []) nothing i (omega arith))) (before.rising i n q p))
-              (λ i q. subst (λ g. place_of g < place_of h) (sym (get_or_append_left hs (h ∷ []) nothing i q)) (let b = before.below i q in let o = next.onward in omega arith))
-              k m j l;
-          held = split (λ n g. Held cell g) (λ k l. before.held k l) next.held;
-          all = λ a s l m n.
-              ⊎_elim
-              (λ lt. keep a s (before.all a s l lt n))
-              (λ ge.
-              ⊎_elim
-              (λ lt. absurd (n (next.first a s l (ge, lt))))
-              (λ at.
-              let t = next.held.series in
-              record { index = length hs; within = omega arith; account = ap (λ (g : Holding). g.account) last ∙ (let e : h.account ≡ a = omega arith in e); series = ap (λ (g : Holding). g.series) last ∙ (let e : h.series ≡ s = omega arith in e) })
-              (cases_lt (place a s) (place_of h)))
-              (cases_lt (place a s) from);
-          below = split (λ n g. place_of g < place_of h + 1) (λ k l. let b = before.below k l in let o = next.onward in omega arith) (omega arith);
-        }
+  listed_behind : (a s : ℕ) → Listed hs a s → Listed (h ∷ hs) a s
+  listed_behind a s i = record { index = suc i.index; within = (let w = i.within in omega arith); account = i.account; series = i.series }
+
+  all_more : (a s : ℕ) → s < 64 → from ≤ place a s → (cell a s).held ≢ pos 0 → Listed (h ∷ hs) a s
+  all_more a s l m n = elim (cases_lt (place a s) (place_of h)) [
+    | inl lt ↦ absurd (n (next.first a s l (m, lt)))
+    | inr ge ↦ elim (cases_lt (place_of h) (place a s)) [
+      | inl gt ↦ listed_behind a s (rest.all a s l (omega arith) n)
+      | inr le ↦ let t = next.held.series in record { index = 0; within = omega arith; account = omega arith; series = omega arith }
+    ]
+  ]
+
+  from_more : From cell from (h ∷ hs)
+  from_more = record { rising = rising_more; held = held_more; all = all_more; above = above_more }
+
+-- what the iterator gives
+module _ {B : Type 0} (meaning : B → Meaning) where
+  from_yields : (s t u : HeldCells B) (hs : List Holding) → Yields (GivesNext meaning) s hs t → GivesNext meaning t None u → From (meaning s.book.now).cell s.from hs
+  from_yields s t u [] y n = subst (λ x. From (meaning x.book.now).cell x.from []) (sym y) (from_none (meaning t.book.now).cell t.from n.0)
+  from_yields s t u (h ∷ hs) (j, step, y) n =
+      let cell = (meaning s.book.now).cell in
+      from_more cell s.from h hs step.0 (subst (λ p. From cell p hs) step.2 (subst (λ b. From (meaning b.now).cell j.from hs) step.1 (from_yields j t u hs y n)))
+
+  -- from the first place on these are all held cells
+  pub listing : {Z E : Type 0} (s : HeldCells B) (r : Result (Vec Holding Z) E) → s.from ≡ 0 → IsCollectResult (GivesNext meaning) s r → IfOk r (λ v. Listing (meaning s.book.now).cell (vec_items v))
+  listing s (Ok v) z (hs, (t, y, end), e) =
+      let n = end tt in
+      let f = from_yields s t n.0 hs y n.1 in
+      subst (Listing (meaning s.book.now).cell) (sym e.0) (record { rising = f.rising; held = f.held; all = λ a k l m. f.all a k l (omega arith) m })
+  listing s (Err e) z h = tt
 
 -- one more line for one more cell
-pub adds_more : (held : List Holding) (lines all more : List OutputLine) (h : Holding) (line : OutputLine) → Adds held lines all → SheetLine h (buffer line) → more ≡ all ++ line ∷ []
+adds_more : (held : List Holding) (lines all more : List OutputLine) (h : Holding) (line : OutputLine) → Adds held lines all → SheetLine h (buffer line) → more ≡ all ++ line ∷ []
     → Adds (held ++ h ∷ []) lines more
 adds_more held lines all more h line a s e = record {
   sheet = a.sheet ++ line ∷ [];

@@ -1,5 +1,5 @@
 -- A day from the stack as it is made to its sheet. Assumes nothing.
-use Rattle.std.proofs.Common.{◌≡◌, ℕ, List, map, IfOk, Ok, Err, Result, sym, ap, ◌∙◌, subst}
+use Rattle.std.proofs.Common.{◌≡◌, ℕ, List, map, sym, ap, ◌∙◌, subst}
 use Rattle.std.proofs.lemmas.List.{map-append}
 use Rattle.grid.specs.declared.GridBook.{GridBook}
 use Rattle.grid.specs.Grids.{grid_meaning}
@@ -57,8 +57,3 @@ day_of text first last lines answers all fresh cut run sheet = record {
   shows = sheet.adds.shows;
   whole = ap (map buffer) sheet.adds.behind ∙ map-append buffer answers sheet.adds.sheet;
 }
-
--- what was made has what follows from what it has
-pub made_weaker : {X Y : Type 0} (Q P : X → Type 0) (r : Result X Y) → ((x : X) → Q x → P x) → IfOk r Q → IfOk r P
-made_weaker Q P (Ok x) f q = f x q
-made_weaker Q P (Err y) f q = tt

@@ -1,6 +1,10 @@
 -- How a text is cut into lines. Assumes nothing.
-use Rattle.std.specs.Prelude.{◌≡◌, ℕ, ◌<◌, ◌⊎◌, List, [], ◌∷◌, ◌++◌, length, ◌≢◌, slice_index}
+use Rattle.std.specs.Prelude.{◌≡◌, ℕ, ◌-◌, ◌<◌, ◌⊎◌, List, [], ◌∷◌, ◌++◌, length, take, if◌then◌else◌, ◌≢◌, slice_index, ◌==◌}
 use Rattle.std.specs.List.{flat_map, AllByRecursion}
+
+-- a line without its byte 10, if it has one
+abbrev pub without_end : List ℕ → List ℕ
+without_end line = if slice_index line (length line - 1) == 10 then take (length line - 1) line else line
 
 -- byte 10 ends a line
 abbrev pub ended : List (List ℕ) → List ℕ

@@ -1,12 +1,14 @@
 -- The sheet of a book. Assumes nothing.
-use Rattle.std.specs.Prelude.{◌≡◌, ℕ, ◌<◌, List, ◌++◌, map, length, pos, Some, None, Option, ◌≢◌, slice_index_or}
+use Rattle.std.specs.Prelude.{◌≡◌, ℕ, ◌+◌, ◌<◌, List, ◌++◌, map, length, pos, Option, IfSome, ◌≢◌, slice_index_or}
 use Rattle.ledger.specs.declared.cells.Cell.{Cell}
 use Rattle.ledger.specs.declared.books.Holding.{Holding}
-use Rattle.ledger.specs.Listing.{place, Held}
+use Rattle.ledger.specs.Listing.{place, Held, FirstHeld}
+use Rattle.ledger.specs.Meanings.{Meaning}
 use Rattle.lines.specs.Output.{SheetLine}
 use Rattle.lines.specs.declared.writing.OutputLine.{OutputLine}
 use Rattle.day.specs.Days.{buffer}
 use Rattle.day.specs.Runs.{Each}
+use Rattle.day.specs.declared.sheets.HeldCells.{HeldCells}
 
 abbrev pub nothing : Holding
 nothing = record { account = 0; series = 0; held = pos 0 }
@@ -17,10 +19,9 @@ nth hs k = slice_index_or hs k nothing
 abbrev pub place_of : Holding → ℕ
 place_of h = place h.account h.series
 
--- an answer names a cell of accounts and series 0 to 63
-abbrev pub InGrid : Option Holding → Type 0
-InGrid None = Unit {0}
-InGrid (Some h) = (h.account < 64) × (h.series < 64)
+-- a call of the iterator over held cells, from s to t: it gives the first from its place on, and stands behind it then
+abbrev pub GivesNext : {B : Type 0} → (B → Meaning) → HeldCells B → Option Holding → HeldCells B → Type 0
+GivesNext meaning s r t = FirstHeld (meaning s.book.now).cell s.from r × (t.book ≡ s.book) × IfSome r (λ h. t.from ≡ place_of h + 1)
 
 -- the cell of an account and a series is in the list
 pub record Listed (hs : List Holding) (a s : ℕ) : Type 0 where

@@ -1,54 +1,55 @@
 // The held cells of a book.
-ghost use Rattle.std.specs.Prelude.{◌≡◌, ℕ, ◌<◌, length, IfOk};
-ghost use Rattle.ledger.specs.Listing.{FirstHeld};
-ghost use Rattle.day.specs.Sheets.{nth, Listing, InGrid, Adds, AddsSheet};
+ghost use Rattle.std.specs.Prelude.{IfOk};
+ghost use Rattle.day.specs.Sheets.{Listing, AddsSheet};
 
 use ledger::books::{Book, Holding};
 use ledger::checks::WIDTH;
 use lines::writing::{OutputLine, sheet_line};
 use std::alloc::{AllocError, Global};
 
-// The first held cell from a place on, among accounts and series 0 to 63.
-fn next_listed<B: Book>(book: &B, from: usize) -> Option<Holding>
-    ensures first { FirstHeld (B.Ledger.meaning book.now).cell from result }
-    ensures inside { InGrid result }
-{
-    book.next_held(from)
+// The held cells of a book from a place on, in the order of places.
+#[derive(Drop)]
+struct HeldCells<'a, B> {
+    book: &'a B,
+    from: usize,
+}
+
+impl<'a, B: Book> Iterator for HeldCells<'a, B> {
+    type Item = Holding;
+
+    ghost use Rattle.std.specs.Prelude.{◌-◌};
+    ghost use Rattle.std.specs.Iterator.{at_most};
+    ghost use Rattle.day.specs.Sheets.{GivesNext};
+
+    ghost next_gives = { GivesNext B.Ledger.meaning };
+
+    ghost remaining = { λ s. at_most (4096 - s.from) };
+
+    fn next(&mut self) -> Option<Holding> {
+        let h = self.book.next_held(self.from)?;
+        // The place behind its own. Computed here: a method of every `Holding` would have to answer accounts of any size.
+        self.from = WIDTH * h.account + h.series + 1;
+        Some(h)
+    }
 }
 
 // Every held cell, once, in the order of places.
 pub fn holdings<B: Book>(heap: Global, book: &B) -> Result<Vec<Holding>, AllocError>
     ensures { IfOk result (λ v. Listing (B.Ledger.meaning book.now).cell v.items) }
 {
-    let mut all = Vec::new(heap);
-    let mut from = 0;
-    while let Some(h) = next_listed(book, from) {
-        all.push(h)?;
-        from = WIDTH * h.account + h.series + 1;
-    }
-    Ok(all)
-}
-
-// A line for each of the cells, behind the lines that are there.
-fn add_lines(lines: Vec<OutputLine>, held: &[Holding]) -> Result<Vec<OutputLine>, AllocError>
-    requires { (k : ℕ) → k < length held.now → (nth held.now k).series < 64 }
-    ensures { IfOk result (λ v. Adds held.now lines.items v.items) }
-{
-    let mut all = lines;
-    for h in held {
-        all.push(sheet_line(*h))?;
-    }
-    Ok(all)
+    HeldCells { book, from: 0 }.collect(heap)
 }
 
 // The sheet of a book, behind the lines that are there: a line for each held cell.
 pub fn add_sheet<B: Book>(
     heap: Global,
-    lines: Vec<OutputLine>,
+    mut lines: Vec<OutputLine>,
     book: &B,
 ) -> Result<Vec<OutputLine>, AllocError>
     ensures { IfOk result (λ v. AddsSheet (B.Ledger.meaning book.now).cell lines.items v.items) }
 {
-    let held = holdings(heap, book)?;
-    add_lines(lines, held.as_slice())
+    for h in &holdings(heap, book)? {
+        lines.push(sheet_line(*h))?;
+    }
+    Ok(lines)
 }

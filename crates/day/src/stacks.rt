@@ -8,24 +8,21 @@ use crate::cuts::cut_lines;
 use crate::sheets::add_sheet;
 use cover::CoverLayer;
 use grid::GridBook;
+use ledger::checks::WIDTH;
 use lines::writing::OutputLine;
 use orders::OrderLayer;
 use std::alloc::{AllocError, Global};
 
-const CELLS: usize = 4096;
+// A number for each cell of 64 accounts.
+const CELLS: usize = WIDTH * WIDTH;
 
 // Nothing is held, rests or is covered.
 fn new_stack(heap: Global) -> Result<CoverLayer<OrderLayer<GridBook>>, AllocError>
     ensures { IfOk result (λ x. Fresh x) }
 {
     let memory = vec![in heap; 0; CELLS]?;
-    let Ok(orders) = OrderLayer::new(GridBook::new(memory), heap) else {
-        return Err(AllocError);
-    };
-    let Ok(stack) = CoverLayer::new(orders, heap) else {
-        return Err(AllocError);
-    };
-    Ok(stack)
+    let orders = OrderLayer::new(GridBook::new(memory), heap)?;
+    Ok(CoverLayer::new(orders, heap)?)
 }
 
 // The answers to the lines of the input, in order, and then the sheet of the book.

@@ -1,3 +1,3 @@
+pub mod Searches
 pub mod Writes
-pub mod Exchanges
 pub mod Whole

@@ -1,39 +1,37 @@
 -- What records hold of a cell, by the place of its record. Assumes nothing.
 use Rattle.std.specs.Prelude.{◌≡◌, ℕ, zero, suc, ◌<◌, true, ◌⊎◌, List, pos, refl}
 use Rattle.std.proofs.Common.{subst, ◌∙◌, inl, inr, ⊎_elim, arith}
-use Rattle.std.proofs.lemmas.Bool.{cases_Bool, cases_lt, cond-true, cond-false, and_parts, and_from, eqb-true, eq-eqb, both_ways}
+use Rattle.std.proofs.lemmas.Bool.{cases_Bool, cases_lt, cond-true, cond-false, both_ways}
+use Rattle.std.proofs.lemmas.Bool.Decides.{nat_tests}
 use Rattle.ledger.specs.Actions.{nonzero}
-use Rattle.entries.specs.declared.records.Entry.{Entry}
+use Rattle.ledger.specs.declared.books.Holding.{Holding}
 use Rattle.entries.specs.Records.{nth, is_of, held_in}
 
 -- e is the record of a cell
-pub record Holds (e : Entry) (a s : ℕ) : Type 0 where
+pub record Holds (e : Holding) (a s : ℕ) : Type 0 where
   pub held : nonzero e.held ≡ true
   pub account : e.account ≡ a
   pub series : e.series ≡ s
 
-of_true : (e : Entry) (a s : ℕ) → is_of e a s ≡ true → Holds e a s
-of_true e a s t =
-    let p = and_parts _ _ t in
-    let q = and_parts _ _ p.1 in
-    record { held = p.0; account = eqb-true _ _ q.0; series = eqb-true _ _ q.1 }
+of_true : (e : Holding) (a s : ℕ) → is_of e a s ≡ true → Holds e a s
+of_true e a s t = grind (arith, nat_tests)
 
-true_of : (e : Entry) (a s : ℕ) → Holds e a s → is_of e a s ≡ true
-true_of e a s h = and_from _ _ h.held (and_from _ _ (eq-eqb _ _ h.account) (eq-eqb _ _ h.series))
+true_of : (e : Holding) (a s : ℕ) → Holds e a s → is_of e a s ≡ true
+true_of e a s h = grind (arith, nat_tests)
 
 -- the count is that of a record of the cell
-pub record Found (xs : List Entry) (n a s : ℕ) : Type 0 where
+pub record Found (xs : List Holding) (n a s : ℕ) : Type 0 where
   pub at : ℕ
   pub below : at < n
   pub holds : Holds (nth xs at) a s
   pub count : held_in xs n a s ≡ (nth xs at).held
 
 -- no record is the cell's, and the count is 0
-pub record Missing (xs : List Entry) (n a s : ℕ) : Type 0 where
+pub record Missing (xs : List Holding) (n a s : ℕ) : Type 0 where
   pub none : (k : ℕ) → k < n → Holds (nth xs k) a s → ⊥
   pub count : held_in xs n a s ≡ pos 0
 
-pub held_cases : (xs : List Entry) (n a s : ℕ) → Found xs n a s ⊎ Missing xs n a s
+pub held_cases : (xs : List Holding) (n a s : ℕ) → Found xs n a s ⊎ Missing xs n a s
 unfolding held_in
 held_cases xs zero a s = inr (record { none = λ k l. absurd (omega arith); count = refl })
 held_cases xs (suc n) a s =
@@ -54,5 +52,5 @@ held_cases xs (suc n) a s =
     (cases_Bool (is_of (nth xs n) a s))
 
 -- a count of 0 where no record is the cell's
-pub held_none : (xs : List Entry) (n a s : ℕ) → ((k : ℕ) → k < n → Holds (nth xs k) a s → ⊥) → held_in xs n a s ≡ pos 0
+pub held_none : (xs : List Holding) (n a s : ℕ) → ((k : ℕ) → k < n → Holds (nth xs k) a s → ⊥) → held_in xs n a s ≡ pos 0
 held_none xs n a s no_one = ⊎_elim (λ f. absurd (no_one f.at f.below f.holds)) (λ m. m.count) (held_cases xs n a s)

@@ -7,23 +7,23 @@ use Rattle.ledger.specs.Meanings.{Lawful}
 use Rattle.ledger.proofs.BookFacts.{book_lawful, book_laws}
 use Rattle.entries.specs.Records.{room}
 use Rattle.entries.specs.declared.book.EntryBook.{EntryBook}
-use Rattle.entries.specs.Books.{items, capacity_of, held_at, Keeps}
-use Rattle.entries.specs.Orders.{held_within, held_beyond, held_all, ordered}
+use Rattle.entries.specs.Books.{capacity_of, held_at, Keeps}
+use Rattle.entries.specs.Orders.{held_within, held_beyond, held_all}
 
 -- it is a ledger
 pub entry_lawful : (x : EntryBook) → Lawful (book_meaning 64 (capacity_of x) (held_at x))
 entry_lawful x =
     book_lawful 64 (capacity_of x) (held_at x) (omega arith)
-    (held_within (items x) x.live (capacity_of x) (ordered x))
-    (held_beyond (items x) x.live (capacity_of x) (ordered x))
+    (held_within x.ordered)
+    (held_beyond x.ordered)
 
 -- and a book
 pub entry_laws : (x : EntryBook) → BookLaws (book_meaning 64 (capacity_of x) (held_at x)) (capacity_of x)
 entry_laws x =
-    let fits = x.fits in
-    let all = held_all (items x) x.live (capacity_of x) (ordered x) in
+    let fits = x.ordered.fits in
+    let all = held_all x.ordered in
     book_laws 64 (capacity_of x) (held_at x)
-    (λ a s h. held_beyond (items x) x.live (capacity_of x) (ordered x) a s (inl h))
+    (λ a s h. held_beyond x.ordered a s (inl h))
     (omega arith)
 
 -- what is kept keeps the capacity

@@ -1,66 +1,37 @@
 -- The order of the held records, and what it says of the counts. Assumes nothing.
-use Rattle.std.specs.Prelude.{◌≡◌, ℕ, zero, suc, ◌-◌, ◌/◌, ◌%◌, ◌<◌, ◌≤◌, true, false, ◌⊎◌, List, pos, ◌≢◌, refl}
+use Rattle.std.specs.Prelude.{◌≡◌, ℕ, zero, suc, ◌-◌, ◌/◌, ◌%◌, ◌<◌, ◌≤◌, true, false, ◌⊎◌, List, pos, ◌≢◌}
 use Rattle.std.proofs.Common.{sym, ap, subst, ◌∙◌}
 use Rattle.std.proofs.Math.Logic.{⊎_elim}
 use native.Mathlib.Omega.{arith}
 use Rattle.std.proofs.lemmas.Int.{ints}
-use Rattle.std.proofs.lemmas.Bool.{cases_lt, cases_eq, cases_order}
+use Rattle.std.proofs.lemmas.Bool.{cases_lt, cases_eq}
 use Rattle.ledger.specs.Actions.{Within, nonzero}
 use Rattle.ledger.specs.Listing.{place}
 use Rattle.ledger.specs.Books.{at_place, held_below, held_cells}
-use Rattle.ledger.proofs.Counts.{one_more, no_more, not_zero}
-use Rattle.entries.specs.declared.records.Entry.{Entry}
-use Rattle.entries.specs.Records.{nth, place_of, held_in, Rises, Known, Free, Parts, Gap}
-use Rattle.entries.specs.declared.book.EntryBook.{EntryBook}
-use Rattle.entries.specs.Books.{items, capacity_of}
+use Rattle.ledger.proofs.Counts.{one_more, no_more}
+use Rattle.ledger.specs.declared.books.Holding.{Holding}
+use Rattle.entries.specs.Records.{nth, place_of, held_in, Ordered, Rises, Parts, Gap}
 use Rattle.entries.specs.Holds.{Holds, held_cases, held_none}
 
 -- what rises strictly does not fall
-pub rises_to : (xs : List Entry) (n : ℕ) → Rises xs n → (j k : ℕ) → j ≤ k → k < n → place_of (nth xs j) ≤ place_of (nth xs k)
-rises_to xs n up j k le lt =
-    ⊎_elim
-    (λ l. let h = up j k l lt in omega arith)
-    (λ g. let e : j ≡ k = omega arith in subst (λ m. place_of (nth xs j) ≤ place_of (nth xs m)) e (omega arith))
-    (cases_lt j k)
-
--- past a place that no record has, the records lie above it
-pub gap_from : (xs : List Entry) (n p k : ℕ) → Rises xs n → Parts xs n p k → (k < n → place_of (nth xs k) ≢ p) → Gap xs n p k
-gap_from xs n p k up c ne = record {
-  within = c.within;
-  before = c.before;
-  onward = λ j g l.
-      let first = c.onward k (omega arith) (omega arith) in
-      let h = rises_to xs n up k j g l in
-      ⊎_elim (λ e. absurd (ne (omega arith) e)) (λ other. omega arith) (cases_eq (place_of (nth xs k)) p);
-}
-
--- the first n records are held and rise, and the rest up to an end are free
-pub record Ordered (xs : List Entry) (n end : ℕ) : Type 0 where
-  pub fits : n ≤ end
-  pub rises : Rises xs n
-  pub known : Known xs n
-  pub free : Free xs n end
+pub rises_to : (xs : List Holding) (n : ℕ) → Rises xs n → (j k : ℕ) → j ≤ k → k < n → place_of (nth xs j) ≤ place_of (nth xs k)
+rises_to xs n up j k le lt = grind (arith, up j k)
 
 -- a cell's place tells the cell
 pub place_parts : (a s b r : ℕ) → s < 64 → r < 64 → place a s ≡ place b r → (a ≡ b) × (s ≡ r)
 place_parts a s b r p q e = (omega arith, omega arith)
 
-module _ (xs : List Entry) (n end : ℕ) (o : Ordered xs n end) where
+module _ {xs : List Holding} {n end : ℕ} (o : Ordered xs n end) where
   -- the record of a cell is one of the first n
   pub holds_below : (k a s : ℕ) → k < end → Holds (nth xs k) a s → k < n
-  holds_below k a s l h =
-      ⊎_elim (λ b. b) (λ g. absurd (not_zero _ h.held (o.free k g l))) (cases_lt k n)
+  holds_below k a s l h = grind (arith, ints, o.free k)
 
   holds_place : (k a s : ℕ) → Holds (nth xs k) a s → place_of (nth xs k) ≡ place a s
   holds_place k a s h = let e = h.account in let f = h.series in omega arith
 
   -- a place has one record
   pub alone : (j k : ℕ) → j < n → k < n → place_of (nth xs j) ≡ place_of (nth xs k) → j ≡ k
-  alone j k l m e =
-      ⊎_elim
-      (λ q. q)
-      (⊎_elim (λ b. let h = o.rises j k b m in absurd (omega arith)) (λ b. let h = o.rises k j b l in absurd (omega arith)))
-      (cases_order j k)
+  alone j k l m e = grind (arith, o.rises j k, o.rises k j)
 
   -- the count of a cell that has a record
   pub found_at : (k a s : ℕ) → k < end → Holds (nth xs k) a s → held_in xs end a s ≡ (nth xs k).held
@@ -74,9 +45,6 @@ module _ (xs : List Entry) (n end : ℕ) (o : Ordered xs n end) where
       (λ m. absurd (m.none k l h))
       (held_cases xs end a s)
 
-  pub live_holds : (k : ℕ) → k < n → Holds (nth xs k) (nth xs k).account (nth xs k).series
-  live_holds k l = record { held = (o.known k l).2; account = refl; series = refl }
-
   -- the count of the cell of a held record
   pub held_live : (k a s : ℕ) → s < 64 → k < n → place_of (nth xs k) ≡ place a s → held_in xs end a s ≡ (nth xs k).held
   held_live k a s small l e =
@@ -89,8 +57,7 @@ module _ (xs : List Entry) (n end : ℕ) (o : Ordered xs n end) where
   held_missing a s no_one = held_none xs end a s (λ k l h. no_one k (holds_below k a s l h) (holds_place k a s h))
 
   pub held_gap : (a s k : ℕ) → Gap xs n (place a s) k → held_in xs end a s ≡ pos 0
-  held_gap a s k c =
-      held_missing a s (λ j l e. ⊎_elim (λ b. let h = c.before j b in omega arith) (λ g. let h = c.onward j g l in omega arith) (cases_lt j k))
+  held_gap a s k c = held_missing a s (λ j l e. grind (arith, c.before j, c.onward j))
 
   -- every count is in reach
   pub held_within : (a s : ℕ) → Within (held_in xs end a s)
@@ -102,18 +69,11 @@ module _ (xs : List Entry) (n end : ℕ) (o : Ordered xs n end) where
 
   -- nothing is held above account or series 63
   pub held_beyond : (a s : ℕ) → (64 ≤ a) ⊎ (64 ≤ s) → held_in xs end a s ≡ pos 0
-  held_beyond a s far =
-      held_none xs end a s (λ k l h.
-      let b = o.known k (holds_below k a s l h) in
-      let e = h.account in
-      let f = h.series in
-      ⊎_elim (λ g. omega (arith, b.0)) (λ g. omega (arith, b.1)) far)
+  held_beyond a s far = held_none xs end a s (λ k l h. grind (arith, o.known k (holds_below k a s l h)))
 
   -- no record has a place that parts the records as the next one does
   none_at : (p k : ℕ) → Parts xs n p k → Parts xs n (suc p) k → nonzero (at_place (held_in xs end) p) ≡ false
-  none_at p k c d =
-      ap nonzero (held_missing (p / 64) (p % 64) (λ j l e.
-      ⊎_elim (λ b. let h = c.before j b in omega arith) (λ g. let h = d.onward j g l in omega arith) (cases_lt j k)))
+  none_at p k c d = ap nonzero (held_missing (p / 64) (p % 64) (λ j l e. grind (arith, c.before j, d.onward j)))
 
   -- a held record at place p
   one_at : (p k : ℕ) → k < n → place_of (nth xs k) ≡ p → nonzero (at_place (held_in xs end) p) ≡ true
@@ -124,8 +84,7 @@ module _ (xs : List Entry) (n end : ℕ) (o : Ordered xs n end) where
   -- as many places below p are held as records lie below it
   pub held_before : (p k : ℕ) → Parts xs n p k → held_below (held_in xs end) p ≡ k
   unfolding held_below
-  held_before zero k c =
-      ⊎_elim (λ l. let h = c.before 0 l in absurd (omega arith)) (λ g. omega arith) (cases_lt 0 k)
+  held_before zero k c = grind (arith, c.before 0)
   held_before (suc p) k c =
       let within = c.within in
       let on : (j : ℕ) → k ≤ j → j < n → p ≤ place_of (nth xs j) = λ j g l. let h = c.onward j g l in omega arith in
@@ -153,10 +112,6 @@ module _ (xs : List Entry) (n end : ℕ) (o : Ordered xs n end) where
   held_all =
       held_before 4096 n (record {
         within = omega arith;
-        before = λ j l. let h = o.known j l in omega (arith, h.0, h.1);
+        before = λ j l. omega (arith, o.known j l);
         onward = λ j g l. absurd (omega arith);
       })
-
--- the records of a book are ordered
-pub ordered : (x : EntryBook) → Ordered (items x) x.live (capacity_of x)
-ordered x = record { fits = x.fits; rises = x.rises; known = x.known; free = x.free }

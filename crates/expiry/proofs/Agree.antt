@@ -1,12 +1,13 @@
 -- Every price compares with every strike as some listed price does. Assumes nothing.
-use Rattle.std.proofs.Common.{◌≡◌, ℕ, suc, ◌+◌, ◌*◌, ◌<◌, ◌≤◌, List, [], ◌∷◌, length, get_or, sym, ◌∙◌, subst, ⊎_elim, mul-lt-mul_of_pos_right, arith}
+use Rattle.std.proofs.Common.{◌≡◌, ℕ, suc, ◌+◌, ◌*◌, ◌<◌, ◌≤◌, List, [], ◌∷◌, length, get_or, sym, subst, ⊎_elim, mul-lt-mul_of_pos_right, arith}
 use lib.ListN.{length-map}
 use Rattle.std.specs.List.{AllByRecursion}
-use Rattle.std.proofs.lemmas.Bool.{lt-ltb, le-ltb, cases_lt, cases_order}
+use Rattle.std.proofs.lemmas.Bool.{cases_lt, cases_order}
+use Rattle.std.proofs.lemmas.Bool.Decides.{nat_tests}
 use Rattle.std.proofs.ByRecursion.{All-weaker, All-get_or, All-from_get_or}
 use Rattle.std.proofs.lemmas.List.{get_or-map}
 use Rattle.strikes.specs.declared.strike.Strike.{Strike}
-use Rattle.strikes.specs.Strikes.{no_strike, prices, AllProper, Rises, Lawful}
+use Rattle.strikes.specs.Strikes.{no_strike, prices, Lawful}
 use Rattle.strikes.specs.Listed.{listed, from_first}
 use Rattle.expiry.specs.Quantities.{price_at, Same, EveryPriceListed}
 
@@ -17,13 +18,13 @@ Rising (K ∷ ks) = (0 < K) × AllByRecursion (λ M. K < M) ks × Rising ks
 
 -- below, at or above a strike in both: the same two tests
 both_below : (p q d K : ℕ) → p < K * q → d < K * 2 → Same p q d K
-both_below p q d K h k = (le-ltb (K * q) p (omega arith) ∙ sym (le-ltb (K * 2) d (omega arith)), lt-ltb p (K * q) h ∙ sym (lt-ltb d (K * 2) k))
+both_below p q d K h k = grind (arith, nat_tests)
 
 both_above : (p q d K : ℕ) → K * q < p → K * 2 < d → Same p q d K
-both_above p q d K h k = (lt-ltb (K * q) p h ∙ sym (lt-ltb (K * 2) d k), le-ltb p (K * q) (omega arith) ∙ sym (le-ltb d (K * 2) (omega arith)))
+both_above p q d K h k = grind (arith, nat_tests)
 
 both_at : (p q d K : ℕ) → p ≡ K * q → d ≡ K * 2 → Same p q d K
-both_at p q d K h k = (le-ltb (K * q) p (omega arith) ∙ sym (le-ltb (K * 2) d (omega arith)), le-ltb p (K * q) (omega arith) ∙ sym (le-ltb d (K * 2) (omega arith)))
+both_at p q d K h k = grind (arith, nat_tests)
 
 -- a price not above K, among strikes above K
 above_all : (p q d K : ℕ) → 0 < q → p ≤ K * q → d ≤ K * 2 → (ks : List ℕ) → AllByRecursion (λ M. K < M) ks → AllByRecursion (Same p q d) ks
@@ -79,19 +80,23 @@ agrees p q pos-q (K ∷ ks) r =
     (λ (v : K * q ≤ p). let f = from_listed p q pos-q K ks r v in (suc f.0, omega arith, f.3))
     (cases_lt p (K * q))
 
--- rising by index is rising by recursion
-rising_from : (ss : List Strike) → Rises ss (length ss) → AllProper ss (length ss) → Rising (prices ss)
-rising_from [] r h = tt
-rising_from (s ∷ ss) r h = (
-  (h 0 (omega arith)).0,
-  All-from_get_or (λ M. s.price < M) (prices ss) 0 (λ i l. let l' : i < length ss = omega (arith, length-map ss (λ x. x.price)) in subst (λ M. s.price < M) (sym (get_or-map (λ x. x.price) ss i no_strike 0 l')) (r 0 (suc i) (omega arith) (omega arith))),
-  rising_from ss (λ i j l k. r (suc i) (suc j) (omega arith) (omega arith)) (λ i l. h (suc i) (omega arith)),
+-- the strikes of a class rise by recursion too
+rising : (ss : List Strike) → Lawful ss → Rising (prices ss)
+rising [] lawful = tt
+rising (s ∷ ss) lawful = (
+  (lawful.proper 0 (omega arith)).0,
+  All-from_get_or (λ M. s.price < M) (prices ss) 0 (λ i l. let l' : i < length ss = omega (arith, length-map ss (λ x. x.price)) in subst (λ M. s.price < M) (sym (get_or-map (λ x. x.price) ss i no_strike 0 l')) (lawful.rises 0 (suc i) (omega arith) (omega arith))),
+  rising ss (record {
+    few = omega (arith, lawful.few);
+    proper = λ i l. lawful.proper (suc i) (omega arith);
+    rises = λ i j l k. lawful.rises (suc i) (suc j) (omega arith) (omega arith);
+  }),
 )
 
 -- so for the strikes of a class
 pub every_price_listed : (ss : List Strike) → Lawful ss → EveryPriceListed ss
 every_price_listed ss lawful p q pos-q =
-    let a = agrees p q pos-q (prices ss) (rising_from ss lawful.rises lawful.proper) in
+    let a = agrees p q pos-q (prices ss) (rising ss lawful) in
     record {
       place = a.0;
       within = a.1;

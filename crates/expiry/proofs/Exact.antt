@@ -1,9 +1,9 @@
 -- The quantities are exact over every price and every count of every account, and monotone in the ranges. Assumes nothing.
-use Rattle.std.proofs.Common.{◌≡◌, ℕ, ◌+◌, ◌*◌, ◌%◌, ◌<◌, ◌≤◌, Bool, true, false, cond, eqb, List, length, get_or, take, ℤ, pos, neg_ℤ, ◌≤ℤ◌, Some, None, Option, sym, refl, ap, ◌∙◌, subst, arith, length-take}
+use Rattle.std.proofs.Common.{◌≡◌, ℕ, ◌+◌, ◌*◌, ◌%◌, ◌<◌, Bool, true, false, cond, eqb, List, [], ◌∷◌, ◌++◌, length, get_or, take, ℤ, pos, ◌≤ℤ◌, Some, None, Option, sym, refl, ap, ◌∙◌, subst, arith}
 use Rattle.std.proofs.lemmas.Int.{ints}
+use Rattle.std.proofs.lemmas.Bool.Decides.{nat_tests}
 use lib.ListN.{length-map}
-use lib.Signed.{≤ℤ_refl}
-use Rattle.std.proofs.lemmas.List.{get_or-map, get_or_default, get_or-take, same_lists}
+use Rattle.std.proofs.lemmas.List.{get_or-map, take_more}
 use Rattle.strikes.specs.declared.strike.Strike.{Strike}
 use Rattle.strikes.specs.Strikes.{prices, Lawful}
 use Rattle.strikes.specs.Listed.{listed}
@@ -16,7 +16,7 @@ use Rattle.expiry.specs.Near.{Near}
 use Rattle.expiry.specs.Expiry.{sum_to, receipt}
 use Rattle.expiry.specs.Quantities.{at, calls_puts, flow, extreme, flows, price_at, quantity, Greatest}
 use Rattle.expiry.specs.Parties.{Party, summed, PartyOf, Possible, Covers, Met, Exact, Inside}
-use Rattle.expiry.proofs.Sums.{≤ℤ_chain, ≤ℤ_opposite, sum_le}
+use Rattle.expiry.proofs.Sums.{≤ℤ_opposite, sum_le}
 use Rattle.expiry.proofs.Agree.{every_price_listed}
 use Rattle.expiry.proofs.Receipts.{calls_at, puts_at, calls_puts_cases, receipt_le, receipt_same, receipt_alike, receipt_summed}
 use Rattle.expiry.proofs.Bounds.{receipt_near}
@@ -26,32 +26,29 @@ use Rattle.expiry.proofs.Choose.{most_bound, most_zero, most_under, greatest_mos
 pub flow_at : (side : Side) (ss : List Strike) (c : ℕ → ℤ) (k : ℕ) → k < length (listed (prices ss)) → get_or (flows side ss c) k (pos 0) ≡ flow side (receipt ss c (price_at ss k) 2)
 flow_at side ss c k l = get_or-map (λ d. flow side (receipt ss c d 2)) (listed (prices ss)) k 0 (pos 0) l
 
--- a list that holds the flows in its first places
-pub flows_filled : (side : Side) (ss : List Strike) (c : ℕ → ℤ) (list : List ℤ) → 2 * length ss + 1 ≤ length list → ((k : ℕ) → k < 2 * length ss + 1 → get_or list k (pos 0) ≡ flow side (receipt ss c (price_at ss k) 2)) → take (2 * length ss + 1) list ≡ flows side ss c
-flows_filled side ss c list long h =
-    let places = length-listed ss in
-    let there : length (take (2 * length ss + 1) list) ≡ 2 * length ss + 1 = omega (arith, length-take (2 * length ss + 1) list) in
-    let here : length (flows side ss c) ≡ 2 * length ss + 1 = length-map (listed (prices ss)) (λ d. flow side (receipt ss c d 2)) ∙ places in
-    same_lists _ _ (there ∙ sym here)
-    (λ k d l.
-    get_or_default _ k d (pos 0) l
-    ∙ get_or-take (2 * length ss + 1) list k (pos 0) (omega arith)
-    ∙ h k (omega arith)
-    ∙ sym (flow_at side ss c k (omega arith))
-    ∙ get_or_default (flows side ss c) k (pos 0) d (omega arith))
+-- one flow for each place
+pub length-flows : (side : Side) (ss : List Strike) (c : ℕ → ℤ) → length (flows side ss c) ≡ 2 * length ss + 1
+length-flows side ss c = length-map (listed (prices ss)) (λ d. flow side (receipt ss c d 2)) ∙ length-listed ss
+
+-- the flow of one place more
+pub flows_more : (side : Side) (ss : List Strike) (c : ℕ → ℤ) (k : ℕ) (xs : List ℤ) (z : ℤ) → k < 2 * length ss + 1 → xs ≡ take k (flows side ss c) → z ≡ flow side (receipt ss c (price_at ss k) 2) → xs ++ z ∷ [] ≡ take (k + 1) (flows side ss c)
+flows_more side ss c k xs z l e f =
+    let more = take_more (flows side ss c) k (pos 0) (omega (arith, length-flows side ss c)) in
+    let at = flow_at side ss c k (omega (arith, length-listed ss)) in
+    rw (e, f, more, at)
 
 module _ (ss : List Strike) where
   -- ranges around others look at counts that flow no less: more calls and fewer puts, or the opposite
   pub flow_wider : (side : Side) (low high low' high' : ℕ → ℤ) (p q : ℕ) → Inside ss low high low' high' → flow side (receipt ss (extreme side low high) p q) ≤ℤ flow side (receipt ss (extreme side low' high') p q)
   flow_wider Long low high low' high' p q i =
       receipt_le ss (calls_puts high low) (calls_puts high' low') p q (λ k l. (
-        subst (λ z. z ≤ℤ calls_puts high' low' (2 * k)) (sym (calls_at high low k)) (subst (λ z. high (2 * k) ≤ℤ z) (sym (calls_at high' low' k)) (i.highs (2 * k) (omega arith))),
-        subst (λ z. z ≤ℤ calls_puts high low (2 * k + 1)) (sym (puts_at high' low' k)) (subst (λ z. low' (2 * k + 1) ≤ℤ z) (sym (puts_at high low k)) (i.lows (2 * k + 1) (omega arith))),
+        rw (calls_at high low k, calls_at high' low' k) (i.highs (2 * k) (omega arith)),
+        rw (puts_at high' low' k, puts_at high low k) (i.lows (2 * k + 1) (omega arith)),
       ))
   flow_wider Short low high low' high' p q i =
       ≤ℤ_opposite _ _ (receipt_le ss (calls_puts low' high') (calls_puts low high) p q (λ k l. (
-        subst (λ z. z ≤ℤ calls_puts low high (2 * k)) (sym (calls_at low' high' k)) (subst (λ z. low' (2 * k) ≤ℤ z) (sym (calls_at low high k)) (i.lows (2 * k) (omega arith))),
-        subst (λ z. z ≤ℤ calls_puts low' high' (2 * k + 1)) (sym (puts_at low high k)) (subst (λ z. high (2 * k + 1) ≤ℤ z) (sym (puts_at low' high' k)) (i.highs (2 * k + 1) (omega arith))),
+        rw (calls_at low' high' k, calls_at low high k) (i.lows (2 * k) (omega arith)),
+        rw (puts_at low high k, puts_at low' high' k) (i.highs (2 * k + 1) (omega arith)),
       )))
 
   -- monotone: listed price by listed price
@@ -61,9 +58,9 @@ module _ (ss : List Strike) where
       (λ k l.
       let here : k < length (listed (prices ss)) = simp length-map at l in
       let there : k < length (flows side ss (extreme side low' high')) = simp length-map here in
-      subst (λ z. z ≤ℤ quantity side ss low' high') (sym (flow_at side ss (extreme side low high) k here))
-      (≤ℤ_chain _ _ _ (flow_wider side low high low' high' (price_at ss k) 2 i)
-      (subst (λ z. z ≤ℤ quantity side ss low' high') (flow_at side ss (extreme side low' high') k here) (most_bound (flows side ss (extreme side low' high')) k there))))
+      let wider = flow_wider side low high low' high' (price_at ss k) 2 i in
+      let most = most_bound (flows side ss (extreme side low' high')) k there in
+      omega (arith, ints, flow_at side ss (extreme side low high) k here, flow_at side ss (extreme side low' high') k here))
 
   -- a single count is a range of itself
   extreme_single : (side : Side) (c : ℕ → ℤ) (s : ℕ) → c s ≡ extreme side c c s
@@ -74,19 +71,20 @@ module _ (ss : List Strike) where
   pub quantity_covers : (side : Side) (low high : ℕ → ℤ) → Lawful ss → (p q : ℕ) → 0 < q → (c : ℕ → ℤ) → Inside ss c c low high → flow side (receipt ss c p q) ≤ℤ quantity side ss low high
   quantity_covers side low high lawful p q pos-q c i =
       let like = every_price_listed ss lawful p q pos-q in
+      let d = price_at ss like.place in
       let there : like.place < length (flows side ss (extreme side low high)) = simp length-map like.within in
-      let e : flow side (receipt ss c p q) ≡ flow side (receipt ss (extreme side c c) (price_at ss like.place) 2)
-      = ap (flow side) (receipt_same ss c p q (price_at ss like.place) like.same ∙ receipt_alike ss c (extreme side c c) (price_at ss like.place) 2 (λ s l. extreme_single side c s)) in
-      subst (λ z. z ≤ℤ quantity side ss low high) (sym e)
-      (≤ℤ_chain _ _ _ (flow_wider side c c low high (price_at ss like.place) 2 i)
-      (subst (λ z. z ≤ℤ quantity side ss low high) (flow_at side ss (extreme side low high) like.place like.within) (most_bound (flows side ss (extreme side low high)) like.place there)))
+      let e : flow side (receipt ss c p q) ≡ flow side (receipt ss (extreme side c c) d 2)
+      = ap (flow side) (receipt_same ss c p q d like.same ∙ receipt_alike ss c (extreme side c c) d 2 (λ s l. extreme_single side c s)) in
+      let wider = flow_wider side c c low high d 2 i in
+      let most = most_bound (flows side ss (extreme side low high)) like.place there in
+      omega (arith, ints, flow_at side ss (extreme side low high) like.place like.within)
 
   module _ (low high : ℕ → ℤ) (party : Party) (of : PartyOf ss low high party) where
     -- possible counts, summed, lie within the summed ranges
     possible_inside : (x : ℕ → ℕ → ℤ) → Possible ss party x → Inside ss (summed party.accounts x) (summed party.accounts x) low high
     possible_inside x possible = record {
-      lows = λ s l. subst (λ z. z ≤ℤ summed party.accounts x s) (of.lows s l) (sum_le _ _ party.accounts (λ a k. (possible a s k l).0));
-      highs = λ s l. subst (λ z. summed party.accounts x s ≤ℤ z) (of.highs s l) (sum_le _ _ party.accounts (λ a k. (possible a s k l).1));
+      lows = λ s l. rw (← of.lows s l) (sum_le _ _ party.accounts (λ a k. (possible a s k l).0));
+      highs = λ s l. rw (← of.highs s l) (sum_le _ _ party.accounts (λ a k. (possible a s k l).1));
     }
 
     -- the counts that the side looks at, account by account
@@ -95,14 +93,8 @@ module _ (ss : List Strike) where
 
     -- low and high are themselves in the range
     extremes_possible : (side : Side) → Possible ss party (extremes side)
-    extremes_possible Long a s l k = (
-      calls_puts_cases (party.high a) (party.low a) (λ z. party.low a s ≤ℤ z) s (of.ranged a s l k) (≤ℤ_refl (party.low a s)),
-      calls_puts_cases (party.high a) (party.low a) (λ z. z ≤ℤ party.high a s) s (≤ℤ_refl (party.high a s)) (of.ranged a s l k),
-    )
-    extremes_possible Short a s l k = (
-      calls_puts_cases (party.low a) (party.high a) (λ z. party.low a s ≤ℤ z) s (≤ℤ_refl (party.low a s)) (of.ranged a s l k),
-      calls_puts_cases (party.low a) (party.high a) (λ z. z ≤ℤ party.high a s) s (of.ranged a s l k) (≤ℤ_refl (party.high a s)),
-    )
+    extremes_possible Long a s l k = let range = of.ranged a s l k in (grind (arith, ints, nat_tests), grind (arith, ints, nat_tests))
+    extremes_possible Short a s l k = let range = of.ranged a s l k in (grind (arith, ints, nat_tests), grind (arith, ints, nat_tests))
 
     -- calls and puts are summed apart
     mixed : (t : Bool) (x y : ℕ → ℕ → ℤ) (m s : ℕ) → sum_to (λ a. cond t (x a s) (y a s)) m ≡ cond t (summed m x s) (summed m y s)
@@ -111,8 +103,8 @@ module _ (ss : List Strike) where
 
     -- they sum to those of the summed ranges
     extremes_summed : (side : Side) (s : ℕ) → s < 2 * length ss → summed party.accounts (extremes side) s ≡ extreme side low high s
-    extremes_summed Long s l = mixed (eqb (s % 2) 0) party.high party.low party.accounts s ∙ ap (λ z. cond (eqb (s % 2) 0) z (summed party.accounts party.low s)) (of.highs s l) ∙ ap (λ z. cond (eqb (s % 2) 0) (high s) z) (of.lows s l)
-    extremes_summed Short s l = mixed (eqb (s % 2) 0) party.low party.high party.accounts s ∙ ap (λ z. cond (eqb (s % 2) 0) z (summed party.accounts party.high s)) (of.lows s l) ∙ ap (λ z. cond (eqb (s % 2) 0) (low s) z) (of.highs s l)
+    extremes_summed Long s l = rw (mixed (eqb (s % 2) 0) party.high party.low party.accounts s, of.highs s l, of.lows s l)
+    extremes_summed Short s l = rw (mixed (eqb (s % 2) 0) party.low party.high party.accounts s, of.lows s l, of.highs s l)
 
     -- the summed counts are a count of the summed ranges
     covers : (side : Side) → Lawful ss → Covers side ss party (quantity side ss low high)
@@ -144,17 +136,11 @@ module _ (ss : List Strike) where
 
 flow_near : (side : Side) (b : ℕ) (z : ℤ) → Near b z → Near b (flow side z)
 flow_near Long b z h = h
-flow_near Short b z h = (≤ℤ_opposite z (pos b) h.1, subst (λ y. neg_ℤ z ≤ℤ y) (back b) (≤ℤ_opposite (neg_ℤ (pos b)) z h.0))
-  where
-    back : (b : ℕ) → neg_ℤ (neg_ℤ (pos b)) ≡ pos b
-    back b = omega (arith, ints)
+flow_near Short b z h = (omega (arith, ints), omega (arith, ints))
 
 -- a quantity is 0 or a flow at some listed price, so it lies as near to 0 as every receipt
 pub quantity_near : (side : Side) (ss : List Strike) (low high : List Sum) (v : ℤ) (o : Option ℕ) → Lawful ss → Greatest (flows side ss (extreme side (at low) (at high))) v o → Near 20480000000000000 v
-quantity_near side ss low high v None lawful g = subst (Near 20480000000000000) (sym g.0) zero_near
-  where
-    zero_near : Near 20480000000000000 (pos 0)
-    zero_near = (omega (arith, ints), omega (arith, ints))
+quantity_near side ss low high v None lawful g = (omega (arith, ints, g.0), omega (arith, ints, g.0))
 quantity_near side ss low high v (Some j) lawful g =
     let here : j < length (listed (prices ss)) = simp length-map at g.within in
     subst (Near 20480000000000000) (sym (flow_at side ss (extreme side (at low) (at high)) j here) ∙ g.meets) (flow_near side _ _ (by_side side))

@@ -1,3 +1,4 @@
+pub mod Numbers
 pub mod Sums
 pub mod Agree
 pub mod Receipts

@@ -3,3 +3,4 @@ pub mod Sides
 pub mod Expiry
 pub mod Quantities
 pub mod Parties
+pub mod Counts

@@ -6,7 +6,7 @@ use Rattle.strikes.specs.Listed.{listed}
 use Rattle.expiry.specs.declared.side.Side.{Side}
 use Rattle.expiry.specs.declared.side.Side.TheVariants.{Long, Short}
 use Rattle.expiry.specs.declared.quantity.Quantity.{Quantity}
-use Rattle.expiry.specs.declared.quantity.Quantities.{Quantities}
+use Rattle.expiry.specs.declared.side.BySide.{BySide}
 use Rattle.expiry.specs.Expiry.{sum_to, receipt}
 use Rattle.expiry.specs.Quantities.{flow, price_at, quantity}
 
@@ -56,7 +56,7 @@ pub record Exact (side : Side) (ss : List Strike) (party : Party) (q : Quantity)
   pub met : Met side ss party q.value q.place
 
 -- both quantities are exact for every party whose ranges sum to low and high
-pub record ExactForAll (ss : List Strike) (low high : ℕ → ℤ) (r : Quantities) : Type 0 where
+pub record ExactForAll (ss : List Strike) (low high : ℕ → ℤ) (r : BySide Quantity) : Type 0 where
   pub long : (party : Party) → PartyOf ss low high party → Exact Long ss party r.long
   pub short : (party : Party) → PartyOf ss low high party → Exact Short ss party r.short
 
@@ -66,6 +66,6 @@ pub record Inside (ss : List Strike) (low high other_low other_high : ℕ → �
   pub highs : (s : ℕ) → s < 2 * length ss → high s ≤ℤ other_high s
 
 -- ranges that lie around others have quantities no smaller
-pub record Monotone (ss : List Strike) (low high : ℕ → ℤ) (r : Quantities) : Type 0 where
+pub record Monotone (ss : List Strike) (low high : ℕ → ℤ) (r : BySide Quantity) : Type 0 where
   pub long : (other_low other_high : ℕ → ℤ) → Inside ss low high other_low other_high → r.long.value ≤ℤ quantity Long ss other_low other_high
   pub short : (other_low other_high : ℕ → ℤ) → Inside ss low high other_low other_high → r.short.value ≤ℤ quantity Short ss other_low other_high

@@ -1,15 +1,19 @@
 // The flows of a party at the listed prices, and the greatest of them.
-ghost use Rattle.std.specs.Prelude.{◌≡◌, ℕ, ◌+◌, ◌-◌, ◌*◌, ◌≤◌, length, take, ℤ, pos, ◌*ℤ◌};
+ghost use Rattle.std.specs.Prelude.{◌≡◌, ◌-◌, ◌*◌, ◌≤◌, length, pos, ◌*ℤ◌};
 ghost use Rattle.strikes.specs.Strikes.{Lawful};
 ghost use Rattle.expiry.specs.Near.{Near};
-ghost use Rattle.expiry.specs.Expiry.{receipt};
-ghost use Rattle.expiry.specs.Quantities.{at, calls_puts, flow, flows, price_at, Greatest};
+ghost use Rattle.expiry.specs.Quantities.{flow, flows, Greatest};
 
 use crate::quantity::Quantity;
 use crate::side::Side;
 use crate::sum::Sum;
+use arrayvec::ArrayVec;
 use greatest::first_greatest;
+use ledger::checks::WIDTH;
 use strikes::strike::Strike;
+
+// A class of 32 strikes lists so many prices.
+const PLACES: usize = 65;
 
 // The units of a count.
 fn units(count: Sum, size: u64) -> i64
@@ -20,103 +24,98 @@ fn units(count: Sum, size: u64) -> i64
     count.value() * (size as i64)
 }
 
-// The receipt at price 0: every put is exercised and no call, whatever the calls.
-fn receipt_at_zero(strikes: &[Strike], puts: &[Sum; 64]) -> i64
-    requires { Lawful strikes.now }
-    ensures { (calls : ℕ → ℤ) → result ≡ receipt strikes.now (calls_puts calls (at puts.now)) 0 2 }
-{
-    let mut receipt = 0;
-    for i in 0..strikes.len() {
-        receipt -= units(puts[2 * i + 1], strikes[i].size);
-    }
-    receipt
-}
-
-// The receipt at a place, from the one at the place before: at an odd place the put of a strike drops out, at the next
-// the call of that strike comes in.
-fn next_receipt(
-    strikes: &[Strike],
-    calls: &[Sum; 64],
-    puts: &[Sum; 64],
-    place: usize,
-    before: i64,
-) -> i64
-    requires lawful { Lawful strikes.now }
-    requires within { place ≤ 2 * length strikes.now }
-    requires before { before ≡ receipt strikes.now (calls_puts (at calls.now) (at puts.now)) (price_at strikes.now (place - 1)) 2 }
-    ensures value { result ≡ receipt strikes.now (calls_puts (at calls.now) (at puts.now)) (price_at strikes.now place) 2 }
-    ensures bound { Near 20480000000000000 result }
-{
-    if place == 0 {
-        return before;
-    }
-    let i = (place - 1) / 2;
-    if place % 2 == 1 {
-        before + units(puts[2 * i + 1], strikes[i].size)
-    } else {
-        before + units(calls[2 * i], strikes[i].size)
+impl Side {
+    // A receipt as the side counts it.
+    fn flow(self, received: i64) -> i64
+        requires { Near 20480000000000000 received }
+        ensures { result ≡ flow self received }
+    {
+        match self {
+            Side::Long => received,
+            Side::Short => -received,
+        }
     }
 }
 
-// A receipt as the side counts it.
-fn turned(side: Side, received: i64) -> i64
-    requires { Near 20480000000000000 received }
-    ensures { result ≡ flow side received }
-{
-    match side {
-        Side::Long => received,
-        Side::Short => -received,
-    }
+// The counts of a party in the series of a class: its calls as in one array, its puts as in another.
+#[derive(Drop)]
+pub(crate) struct Counts<'a> {
+    pub(crate) strikes: &'a [Strike],
+    pub(crate) calls: &'a [Sum; WIDTH],
+    pub(crate) puts: &'a [Sum; WIDTH],
+    ghost lawful: { Lawful strikes.now },
 }
 
-// The flows at the listed prices, in the first 2n + 1 places of the list.
-fn list_flows(side: Side, strikes: &[Strike], calls: &[Sum; 64], puts: &[Sum; 64]) -> [i64; 65]
-    requires { Lawful strikes.now }
-    ensures { take (2 * length strikes.now + 1) result ≡ flows side strikes.now (calls_puts (at calls.now) (at puts.now)) }
-{
-    let mut list = [0; 65];
-    let mut receipt = receipt_at_zero(strikes, puts);
-    for place in 0..2 * strikes.len() + 1 {
-        receipt = next_receipt(strikes, calls, puts, place, receipt);
-        list[place] = turned(side, receipt);
+impl Counts<'_> {
+    ghost use Rattle.expiry.specs.Counts.{counts_of, receipt_at};
+
+    // The receipt at price 0: every put is exercised and no call.
+    fn receipt_at_zero(&self) -> i64
+        ensures { result ≡ receipt_at self.now 0 }
+    {
+        let &Counts { strikes, puts, .. } = self;
+        let mut receipt = 0;
+        for (i, strike) in strikes.iter().enumerate() {
+            receipt -= units(puts[2 * i + 1], strike.size);
+        }
+        receipt
     }
-    list
+
+    // The receipt at a place, from the one at the place before: at an odd place the put of a strike drops out, at the
+    // next the call of that strike comes in.
+    fn next_receipt(&self, place: usize, before: i64) -> i64
+        requires within { place ≤ 2 * length self.now.strikes.now }
+        requires before { before ≡ receipt_at self.now (place - 1) }
+        ensures value { result ≡ receipt_at self.now place }
+        ensures bound { Near 20480000000000000 result }
+    {
+        if place == 0 {
+            return before;
+        }
+        let &Counts {
+            strikes,
+            calls,
+            puts,
+        } = self;
+        let i = (place - 1) / 2;
+        if place % 2 == 1 {
+            before + units(puts[2 * i + 1], strikes[i].size)
+        } else {
+            before + units(calls[2 * i], strikes[i].size)
+        }
+    }
+
+    // The flows at the listed prices.
+    fn flows(&self, side: Side) -> ArrayVec<i64, PLACES>
+        ensures { result.items ≡ flows side self.now.strikes.now (counts_of self.now) }
+    {
+        let mut flows = ArrayVec::new();
+        let mut receipt = self.receipt_at_zero();
+        // By place, since the place says which series drops out or comes in.
+        for place in 0..2 * self.strikes.len() + 1 {
+            receipt = self.next_receipt(place, receipt);
+            flows.push(side.flow(receipt));
+        }
+        flows
+    }
+
+    // The greatest of 0 and the flows.
+    pub(crate) fn greatest_flow(&self, side: Side) -> Quantity
+        ensures { Greatest (flows side self.now.strikes.now (counts_of self.now)) result.value result.place }
+    {
+        greatest_of(&self.flows(side))
+    }
 }
 
 // The greatest of 0 and a list of flows.
-fn greatest_of(list: &[i64]) -> Quantity
-    ensures { Greatest list.now result.value result.place }
+fn greatest_of(flows: &[i64]) -> Quantity
+    ensures { Greatest flows.now result.value result.place }
 {
-    let Some(peak) = first_greatest(list) else {
-        return Quantity {
-            value: 0,
-            place: None,
-        };
-    };
-    let value = list[peak.first];
-    if value > 0 {
-        Quantity {
-            value,
+    match first_greatest(flows) {
+        Some(peak) if flows[peak.first] > 0 => Quantity {
+            value: flows[peak.first],
             place: Some(peak.first),
-        }
-    } else {
-        Quantity {
-            value: 0,
-            place: None,
-        }
+        },
+        _ => Quantity::default(),
     }
-}
-
-// The greatest of 0 and the flows of the calls in one array and the puts in another.
-pub(crate) fn greatest_flow(
-    side: Side,
-    strikes: &[Strike],
-    calls: &[Sum; 64],
-    puts: &[Sum; 64],
-) -> Quantity
-    requires { Lawful strikes.now }
-    ensures { Greatest (flows side strikes.now (calls_puts (at calls.now) (at puts.now))) result.value result.place }
-{
-    let list = list_flows(side, strikes, calls, puts);
-    greatest_of(&list[0..2 * strikes.len() + 1])
 }

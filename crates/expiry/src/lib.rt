@@ -13,14 +13,16 @@ pub mod quantity;
 pub mod side;
 pub mod sum;
 
-use flows::greatest_flow;
+use flows::Counts;
+use ledger::checks::WIDTH;
 use quantity::Quantities;
-use side::Side;
+use side::{BySide, Side};
 use strikes::Class;
 use sum::Sum;
 
-// The quantities of a party, from the sums of its lows and of its highs in each series.
-pub fn quantities(class: &Class, low: [Sum; 64], high: [Sum; 64]) -> Quantities
+// The quantities of a party, from the sums of its lows and of its highs in each series: two arrays by value, the published
+// form of this call.
+pub fn quantities(class: &Class, low: [Sum; WIDTH], high: [Sum; WIDTH]) -> Quantities
     ensures long { Greatest (flows Long (strikes_of class.now) (extreme Long (at low) (at high))) result.long.value result.long.place }
     ensures short { Greatest (flows Short (strikes_of class.now) (extreme Short (at low) (at high))) result.short.value result.short.place }
     ensures value { (result.long.value ≡ quantity Long (strikes_of class.now) (at low) (at high)) × (result.short.value ≡ quantity Short (strikes_of class.now) (at low) (at high)) }
@@ -30,9 +32,19 @@ pub fn quantities(class: &Class, low: [Sum; 64], high: [Sum; 64]) -> Quantities
     ensures monotone { Monotone (strikes_of class.now) (at low) (at high) result }
 {
     let strikes = class.strikes();
-    let long = greatest_flow(Side::Long, strikes, &high, &low);
-    let short = greatest_flow(Side::Short, strikes, &low, &high);
-    Quantities { long, short }
+    let taken = Counts {
+        strikes,
+        calls: &high,
+        puts: &low,
+    };
+    let handed_over = Counts {
+        strikes,
+        calls: &low,
+        puts: &high,
+    };
+    let long = taken.greatest_flow(Side::Long);
+    let short = handed_over.greatest_flow(Side::Short);
+    BySide { long, short }
 }
 
 #[cfg(test)]

@@ -12,7 +12,8 @@ pub struct Sum {
 }
 
 impl Sum {
-    // The sum of that value, or none where it is farther from 0.
+    // The sum of that value, or none where it is farther from 0. An Option, as `NonZero::new` gives, and no TryFrom: its
+    // error would have nothing to tell.
     pub fn new(value: i64) -> Option<Sum>
         ensures { MatchOption result (Near 64000000000 value → ⊥) (λ s. s.value ≡ value) }
     {

@@ -1,14 +1,16 @@
 // Two strikes, 1000 and 1200, of 100 units each.
 use crate::quantities;
 use crate::quantity::{Quantities, Quantity};
+use crate::side::BySide;
 use crate::sum::Sum;
+use ledger::checks::WIDTH;
 use strikes::Class;
 
 // The sums of the four series.
-fn sums(values: [i64; 4]) -> Option<[Sum; 64]> {
-    let mut sums = [Sum::new(0)?; 64];
-    for series in 0..4usize {
-        sums[series] = Sum::new(values[series])?;
+fn sums(values: [i64; 4]) -> Option<[Sum; WIDTH]> {
+    let mut sums = [Sum::zero(); WIDTH];
+    for (sum, value) in sums.iter_mut().zip(values) {
+        *sum = Sum::new(value)?;
     }
     Some(sums)
 }
@@ -28,7 +30,7 @@ fn both(
     short: i64,
     short_place: Option<usize>,
 ) -> Option<Quantities> {
-    Some(Quantities {
+    Some(BySide {
         long: Quantity {
             value: long,
             place: long_place,

@@ -4,6 +4,7 @@ use Rattle.std.specs.Int.{int_max, int_min}
 use Rattle.ledger.specs.declared.cells.Cell.{Cell}
 use Rattle.ledger.specs.declared.cells.Quote.{Quote}
 use Rattle.ledger.specs.Checks.{checked, ◌then◌}
+use Rattle.ledger.specs.Cells.{standing}
 use Rattle.ledger.specs.Meanings.{Meaning}
 use Rattle.ledger.specs.Layers.{asked}
 
@@ -12,7 +13,7 @@ abbrev pub spanned : Quote → Quote
 spanned q = record { held = q.held; low = int_min q.low (pos 0); high = int_max q.high (pos 0) }
 
 abbrev pub span_cell : Cell → Cell
-span_cell c = record { held = c.held; low = int_min c.low (pos 0); high = int_max c.high (pos 0); buys = c.buys; sells = c.sells; cover = c.cover }
+span_cell c = let q = spanned (standing c) in record { held = q.held; low = q.low; high = q.high; buys = c.buys; sells = c.sells; cover = c.cover }
 
 -- the layer above a ledger that means m: it passes every action down
 abbrev pub span_meaning : Meaning → Meaning

@@ -22,9 +22,9 @@ fn spanned_quote(q: Quote) -> Quote
     ensures { result ≡ spanned q }
 {
     Quote {
-        held: q.held,
         low: q.low.min(0),
         high: q.high.max(0),
+        ..q
     }
 }
 
@@ -54,22 +54,9 @@ impl<L: Ledger> Ledger for SpanLayer<L> {
     }
 
     fn cell(&self, account: usize, series: usize) -> Cell {
-        let Cell {
-            held,
-            low,
-            high,
-            buys,
-            sells,
-            cover,
-        } = self.below.cell(account, series);
-        Cell {
-            held,
-            low: low.min(0),
-            high: high.max(0),
-            buys,
-            sells,
-            cover,
-        }
+        let below = self.below.cell(account, series);
+        let Quote { low, high, .. } = spanned_quote(Quote::from(below));
+        Cell { low, high, ..below }
     }
 
     fn quote(&self, i: Instruction) -> Result<Quote, Fault> {
@@ -80,6 +67,7 @@ impl<L: Ledger> Ledger for SpanLayer<L> {
 
     fn instruct(&mut self, i: Instruction) -> Result<Quote, Fault> {
         let quote = self.quote(i)?;
+        // It cannot refuse: it was quoted just before.
         let _ = self.below.instruct(i);
         Ok(quote)
     }

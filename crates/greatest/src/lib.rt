@@ -21,7 +21,7 @@ pub struct Peak {
 fn exceeds<T: Ord>(x: &T, y: &T) -> bool
     ensures { result ≡ above T.cmp x.now y.now }
 {
-    y.cmp(x).is_lt()
+    x > y
 }
 
 // The first place whose entry no other exceeds. An empty list has none.
@@ -29,12 +29,11 @@ pub fn first_greatest<T: Ord>(list: &[T]) -> Option<Peak>
     ensures within { MatchOption result (length list.now ≡ 0) (λ p. p.first < length list.now) }
     ensures greatest { FirstGreatest T.cmp list.now result }
 {
-    if list.is_empty() {
-        return None;
-    }
+    let mut greatest = list.first()?;
     let mut first = 0;
-    for i in 1..list.len() {
-        if exceeds(&list[i], &list[first]) {
+    for (i, x) in list.iter().enumerate().skip(1) {
+        if exceeds(x, greatest) {
+            greatest = x;
             first = i;
         }
     }

@@ -1,12 +1,17 @@
 -- A grid book is never full, and its laws. Assumes nothing.
-use Rattle.std.specs.Prelude.{◌≡◌, ℕ, ◌+◌, ◌*◌, ◌/◌, ◌%◌, ◌<◌, ◌≤◌, Bool, true, false, not, ◌&&◌, ◌⊎◌, pos, ◌==◌, refl}
-use Rattle.std.proofs.Common.{ap, ◌∙◌, inl, inr, ⊎_elim, arith}
-use Rattle.std.proofs.lemmas.Bool.{cases_Bool, eqb-true}
+use Rattle.std.specs.Prelude.{◌≡◌, ℕ, ◌+◌, ◌*◌, ◌/◌, ◌%◌, ◌<◌, ◌≤◌, true, false, not, ◌⊎◌, pos, Ok, Err, Result, refl}
+use Rattle.std.proofs.Common.{sym, ap, inr, arith}
+use Rattle.std.proofs.lemmas.Int.{ints}
+use Rattle.std.proofs.lemmas.Bool.Decides.{nat_tests}
+use Rattle.std.proofs.lemmas.Bool.{not-true}
 use Rattle.ledger.specs.declared.cells.Instruction.{Instruction}
-use Rattle.ledger.specs.Actions.{Within, nonzero}
+use Rattle.ledger.specs.Actions.{Within}
 use Rattle.ledger.specs.Meanings.{Lawful}
-use Rattle.ledger.specs.Books.{at_place, held_below, held_cells, is_full, BookLaws}
-use Rattle.ledger.proofs.Counts.{zero_from, held_most, held_fewer, held_same}
+use Rattle.ledger.specs.Books.{held_below, held_cells, is_full, filled, book_answer, BookLaws}
+use Rattle.ledger.specs.Checks.{checked}
+use Rattle.ledger.specs.declared.faults.Fault.{Fault}
+use Rattle.ledger.proofs.Chains.{checked_ok}
+use Rattle.ledger.proofs.Counts.{held_most, held_fewer, held_same}
 use Rattle.ledger.proofs.BookFacts.{book_lawful, book_laws}
 use Rattle.tables.specs.Tables.{at, rows_of, items}
 use Rattle.tables.specs.declared.Table.{Table}
@@ -19,7 +24,7 @@ module _ (t : Table) where
   untaken a s h = number_out (items t) (rows_of t) a s (inr h)
 
   pub outside : (a s : ℕ) → (64 ≤ a) ⊎ (64 ≤ s) → at t a s ≡ pos 0
-  outside a s h = ⊎_elim (λ p. untaken a s (omega arith)) (λ q. number_out (items t) (rows_of t) a s (inl q)) h
+  outside a s h = number_out (items t) (rows_of t) a s (grind arith)
 
   -- so the cells held are among the rows
   among : held_cells (at t) ≡ held_below (at t) (64 * rows_of t)
@@ -27,23 +32,22 @@ module _ (t : Table) where
 
   -- where one of them is not held, fewer are held than the rows have cells
   pub room : (i : Instruction) → i.account < rows_of t → i.series < 64 → not (is_full (grid_capacity t) (at t) i) ≡ true
-  room i p q = by (nonzero (at t i.account i.series)) refl
+  room i p q =
+      let k = 64 * i.account + i.series in
+      let row : k / 64 ≡ i.account = omega arith in
+      let column : k % 64 ≡ i.series = omega arith in
+      let fewer = λ (z : at t i.account i.series ≡ pos 0). held_fewer (at t) (64 * rows_of t) k (omega arith) (rw (row, column) z) in
+      grind (arith, nat_tests, ints, among, fewer)
+
+  -- so its answer is that of a book with room
+  pub never_full : (i : Instruction) → filled (rows_of t) (at t i.account i.series) false i ≡ book_answer (rows_of t) (grid_capacity t) (at t) i
+  never_full i = by (checked (rows_of t) i) refl
     where
-      k : ℕ
-      k = 64 * i.account + i.series
-
-      fewer : at t i.account i.series ≡ pos 0 → (held_cells (at t) == grid_capacity t) ≡ false
-      fewer z =
-          let a : k / 64 ≡ i.account = omega arith in
-          let s : k % 64 ≡ i.series = omega arith in
-          let here : at_place (at t) k ≡ pos 0 = ap (λ n. at t n (k % 64)) a ∙ ap (at t i.account) s ∙ z in
-          let f = held_fewer (at t) (64 * rows_of t) k (omega arith) here in
-          let g = among in
-          ⊎_elim (λ e. let q = eqb-true _ _ e in absurd (omega arith)) (λ e. e) (cases_Bool (held_cells (at t) == grid_capacity t))
-
-      by : (b : Bool) → nonzero (at t i.account i.series) ≡ b → not (not b && held_cells (at t) == grid_capacity t) ≡ true
-      by true e = refl
-      by false e = ap not (fewer (zero_from _ e))
+      by : (r : Result (Unit {0}) Fault) → checked (rows_of t) i ≡ r → filled (rows_of t) (at t i.account i.series) false i ≡ book_answer (rows_of t) (grid_capacity t) (at t) i
+      by (Ok u) e =
+          let k = checked_ok (rows_of t) i u e in
+          ap (λ b. filled (rows_of t) (at t i.account i.series) b i) (sym (not-true _ (room i k.account k.series)))
+      by (Err f) e = rw e
 
   pub grid_lawful : ((a s : ℕ) → Within (at t a s)) → Lawful (grid_meaning t)
   grid_lawful near = book_lawful (rows_of t) (grid_capacity t) (at t) (omega arith) near outside

@@ -5,15 +5,15 @@ ghost use Rattle.std.specs.Prelude.{◌≡◌, ℕ, ◌*◌, ◌<◌, pos, slice
 ghost use Rattle.ledger.specs.Actions.{Within};
 ghost use Rattle.ledger.specs.Listing.{place};
 ghost use Rattle.tables.specs.Tables.{at, items, rows_of, Cleared, Untouched};
-ghost use Rattle.grid.specs.Grids.{grid_meaning, grid_capacity};
+ghost use Rattle.grid.specs.Grids.{grid_meaning, grid_capacity, holding_at};
 ghost use Rattle.grid.specs.GridsLemmas.{grid_lawful, grid_laws};
 ghost use Rattle.tables.proofs.Writes.{untouched_still, untouched_onward};
 ghost use Rattle.std.proofs.Common.{ap};
 
-use ledger::books::{Book, Holding};
+use ledger::books::{Book, Holding, fill_quote};
 use ledger::cells::{Cell, Instruction, Quote};
-use ledger::checks::{WIDTH, check, is_fill, is_within};
-use ledger::faults::{Fault, Reason};
+use ledger::checks::WIDTH;
+use ledger::faults::Fault;
 use ledger::ledgers::Ledger;
 use tables::Table;
 
@@ -41,6 +41,19 @@ impl GridBook {
         let GridBook { held } = self;
         held.into_memory()
     }
+
+    // What is held at a place.
+    fn holding(&self, place: usize) -> Holding
+        ensures { result ≡ holding_at self.now.held place }
+    {
+        let account = place / WIDTH;
+        let series = place % WIDTH;
+        Holding {
+            account,
+            series,
+            held: self.held.at(account, series),
+        }
+    }
 }
 
 impl Ledger for GridBook {
@@ -63,31 +76,13 @@ impl Ledger for GridBook {
     }
 
     fn cell(&self, account: usize, series: usize) -> Cell {
-        let held = self.held.at(account, series);
-        Cell {
-            held,
-            low: held,
-            high: held,
-            buys: 0,
-            sells: 0,
-            cover: 0,
-        }
+        Cell::of_count(self.held.at(account, series))
     }
 
+    // It is never full.
     fn quote(&self, i: Instruction) -> Result<Quote, Fault> {
-        check(self.held.rows(), i)?;
-        if !is_fill(i.action) {
-            return Err(Fault::found(Reason::NoTaker));
-        }
-        let held = self.held.at(i.account, i.series) + i.amount;
-        if !is_within(held) {
-            return Err(Fault::found(Reason::Reach));
-        }
-        Ok(Quote {
-            held,
-            low: held,
-            high: held,
-        })
+        let held = self.held.at(i.account, i.series);
+        fill_quote(self.held.rows(), held, false, i)
     }
 
     fn instruct(&mut self, i: Instruction) -> Result<Quote, Fault> {
@@ -106,18 +101,6 @@ impl Book for GridBook {
 
     fn next_held(&self, from: usize) -> Option<Holding> {
         let end = self.held.rows() * WIDTH;
-        for p in from..end {
-            let account = p / WIDTH;
-            let series = p % WIDTH;
-            let held = self.held.at(account, series);
-            if held != 0 {
-                return Some(Holding {
-                    account,
-                    series,
-                    held,
-                });
-            }
-        }
-        None
+        (from..end).map(|p| self.holding(p)).find(|h| h.held != 0)
     }
 }

@@ -1,61 +1,61 @@
--- The ledger below after a layer passed an instruction on. Assumes nothing.
-use Rattle.std.proofs.Common.{◌≡◌, ℕ, ℤ, pos, negsuc, ◌+ℤ◌, ◌≤ℤ◌, Some, None, Ok, Err, Option, sym, ap, ◌∙◌, subst, arith, w64, SFits}
+-- The ledger below a layer, as it answers and as it is left. Assumes nothing.
+use Rattle.std.proofs.Common.{◌≡◌, ◌≢◌, ℕ, ℤ, pos, negsuc, ◌+ℤ◌, ◌≤ℤ◌, Some, None, Ok, Err, Option, sym, ap, ◌∙◌, subst, arith, w64, SFits}
 use Rattle.std.specs.Prelude.{IfOk}
 use Rattle.std.proofs.lemmas.Int.{ints, clamps}
 use Rattle.ledger.specs.declared.actions.Action.TheVariants.{Fill}
 use Rattle.ledger.specs.declared.cells.Cell.{Cell}
 use Rattle.ledger.specs.declared.cells.Quote.{Quote}
 use Rattle.ledger.specs.declared.cells.Instruction.{Instruction}
-use Rattle.ledger.specs.Actions.{Step, step}
+use Rattle.ledger.specs.Actions.{Step}
 use Rattle.ledger.specs.Checks.{Answer}
-use Rattle.ledger.specs.Cells.{standing, Ranged, Quotes, Obeyed}
+use Rattle.ledger.specs.Cells.{standing, Ranged, Quotes, Obeyed, after}
 use Rattle.ledger.specs.Meanings.{Meaning, Lawful, Left}
-use Rattle.ledger.specs.Layers.{raised, asked, Passed}
+use Rattle.ledger.specs.Layers.{raised, asked, as_fill, Passed}
 
 pub plus_zero : (z : ℤ) → z +ℤ pos 0 ≡ z
 plus_zero z = omega (arith, ints)
 
-numbers : ℤ → ℤ → ℤ → ℤ → ℤ → ℤ → Cell
-numbers h l u b s k = record { held = h; low = l; high = u; buys = b; sells = s; cover = k }
-
--- a cell is its six numbers
-pub same_numbers : (c d : Cell) → c.held ≡ d.held → c.low ≡ d.low → c.high ≡ d.high → c.buys ≡ d.buys → c.sells ≡ d.sells → c.cover ≡ d.cover → c ≡ d
-unfolding numbers
-same_numbers c d h l u b s k =
-    ap (λ z. numbers z c.low c.high c.buys c.sells c.cover) h
-    ∙ ap (λ z. numbers d.held z c.high c.buys c.sells c.cover) l
-    ∙ ap (λ z. numbers d.held d.low z c.buys c.sells c.cover) u
-    ∙ ap (λ z. numbers d.held d.low d.high z c.sells c.cover) b
-    ∙ ap (λ z. numbers d.held d.low d.high d.buys z c.cover) s
-    ∙ ap (numbers d.held d.low d.high d.buys d.sells) k
-
 -- an answer that comes up as a quote is that quote below
 pub raised_ok : (r : Answer) (q : Quote) → raised r ≡ Ok q → r ≡ Ok q
 raised_ok (Ok m) q e = e
-raised_ok (Err f) q e = absurd (let z : ◌≡◌ {A = ℕ} 0 1 = cc in omega arith)
+raised_ok (Err f) q e = cc
+
+-- what the ledger below carries out where d is sent to it: nothing sent is a fill of nothing
+abbrev pub told : Instruction → Option Instruction → Instruction
+told i None = as_fill i (pos 0)
+told i (Some j) = j
+
+-- a cell that came to the quote q, its rests and its cover by the step t
+abbrev pub moved : Cell → Step → Quote → Cell
+moved c t q = record { held = q.held; low = q.low; high = q.high; buys = c.buys +ℤ t.buys; sells = c.sells +ℤ t.sells; cover = c.cover +ℤ t.cover }
+
+-- from the cells f to the cells g: one cell has come to the quote q by the step t, and every other is as it was
+pub record Moved (f g : ℕ → ℕ → Cell) (a s : ℕ) (t : Step) (q : Quote) : Type 0 where
+  pub here : g a s ≡ moved (f a s) t q
+  pub elsewhere : (b r : ℕ) → (b ≡ a → r ≢ s) → g b r ≡ f b r
+
+-- a cell stays as it is under a fill of nothing
+still : (c : Cell) (i : Instruction) → after c (as_fill i (pos 0)) (standing c) ≡ c
+still c i = simp plus_zero
 
 module _ (m : Meaning) (lawful : Lawful m) where
-  pub asked_quotes : (j : Instruction) (q : Quote) → raised (m.quoted j) ≡ Ok q → Quotes j.action j.amount (m.cell j.account j.series) q
-  asked_quotes j q e = lawful.quotes j q (raised_ok (m.quoted j) q e)
-
-  -- a cell as it stands is as after a fill of nothing
-  pub still_quotes : (a s : ℕ) (q : Quote) → asked m a s None ≡ Ok q → Quotes Fill (pos 0) (m.cell a s) q
-  still_quotes a s q e =
-      let c = m.cell a s in
+  pub asked_quotes : (i : Instruction) (d : Option Instruction) (q : Quote) → asked m i.account i.series d ≡ Ok q → Quotes (told i d).action (told i d).amount (m.cell (told i d).account (told i d).series) q
+  asked_quotes i None q e =
+      let c = m.cell i.account i.series in
       let is : standing c ≡ q = cc in
       subst (Quotes Fill (pos 0) c) is
       (record {
         held = sym (plus_zero c.held);
-        ranged = lawful.ranged a s;
+        ranged = lawful.ranged i.account i.series;
         moves = record {
           low = record { least = omega (arith, ints, clamps); most = omega (arith, ints, clamps) };
           high = record { least = omega (arith, ints, clamps); most = omega (arith, ints, clamps) };
         };
       })
+  asked_quotes i (Some j) q e = lawful.quotes j q (raised_ok (m.quoted j) q e)
 
   pub asked_ranged : (a s : ℕ) (d : Option Instruction) (q : Quote) → asked m a s d ≡ Ok q → Ranged q
-  asked_ranged a s None q e = (still_quotes a s q e).ranged
-  asked_ranged a s (Some j) q e = (asked_quotes j q e).ranged
+  asked_ranged a s d q e = (asked_quotes (record { action = Fill; account = a; series = s; amount = pos 0 }) d q e).ranged
 
   -- what is asked comes up in its range, if it comes up as a quote
   pub answer_ranged : (a s : ℕ) (d : Option Instruction) (r : Answer) → r ≡ asked m a s d → IfOk r (λ q. Ranged q)
@@ -63,43 +63,16 @@ module _ (m : Meaning) (lawful : Lawful m) where
   answer_ranged a s d (Err f) e = tt
 
 module _ {X : Type 0} (meaning : X → Meaning) (x y : X) where
-  -- where something was sent and answered by m
-  pub sent_left : (j : Instruction) (m : Quote) → raised ((meaning x).quoted j) ≡ Ok m → Passed meaning x y (Some j) → Obeyed (meaning x).cell (meaning y).cell j m
-  sent_left j m e p = subst (Left meaning x y j) (raised_ok ((meaning x).quoted j) m e) p.left
-
-  -- the cell below stands as the quote m says
-  pub stands_at : (a s : ℕ) (m : Quote) → y ≡ x → ◌≡◌ {A = Answer} (Ok (standing ((meaning x).cell a s))) (Ok m) → standing ((meaning y).cell a s) ≡ m
-  stands_at a s m e f = ap (λ z. standing ((meaning z).cell a s)) e ∙ cc
-
-  -- one cell below came to the quote m, its rests and cover by a step, and no other cell changed
-  pub record Under (a s : ℕ) (t : Step) (m : Quote) : Type 0 where
-    pub stands : standing ((meaning y).cell a s) ≡ m
-    pub buys : ((meaning y).cell a s).buys ≡ ((meaning x).cell a s).buys +ℤ t.buys
-    pub sells : ((meaning y).cell a s).sells ≡ ((meaning x).cell a s).sells +ℤ t.sells
-    pub cover : ((meaning y).cell a s).cover ≡ ((meaning x).cell a s).cover +ℤ t.cover
-    pub elsewhere : (b r : ℕ) → (b ≡ a → r ≡ s → ⊥) → (meaning y).cell b r ≡ (meaning x).cell b r
-
-  pub under_none : (a s : ℕ) (m : Quote) → asked (meaning x) a s None ≡ Ok m → Passed meaning x y None → Under a s (record { held = pos 0; buys = pos 0; sells = pos 0; cover = pos 0 }) m
-  under_none a s m e p =
-      let same : (meaning y).cell a s ≡ (meaning x).cell a s = ap (λ z. (meaning z).cell a s) p in
+  -- the ledger below has carried out what was sent to it
+  pub passed_obeyed : (i : Instruction) (d : Option Instruction) (q : Quote) → asked (meaning x) i.account i.series d ≡ Ok q → Passed meaning x y d → Obeyed (meaning x).cell (meaning y).cell (told i d) q
+  passed_obeyed i None q e p =
+      let c = (meaning x).cell i.account i.series in
+      let is : standing c ≡ q = cc in
       record {
-        stands = stands_at a s m p e;
-        buys = ap (λ (c : Cell). c.buys) same ∙ sym (plus_zero _);
-        sells = ap (λ (c : Cell). c.sells) same ∙ sym (plus_zero _);
-        cover = ap (λ (c : Cell). c.cover) same ∙ sym (plus_zero _);
-        elsewhere = λ b r _. ap (λ z. (meaning z).cell b r) p;
+        here = ap (λ z. (meaning z).cell i.account i.series) p ∙ sym (still c i) ∙ ap (after c (as_fill i (pos 0))) is;
+        elsewhere = λ a s _. ap (λ z. (meaning z).cell a s) p;
       }
-
-  pub under_some : (j : Instruction) (m : Quote) → raised ((meaning x).quoted j) ≡ Ok m → Passed meaning x y (Some j) → Under j.account j.series (step j.action j.amount) m
-  under_some j m e p =
-      let o = sent_left j m e p in
-      record {
-        stands = ap standing o.here;
-        buys = ap (λ (c : Cell). c.buys) o.here;
-        sells = ap (λ (c : Cell). c.sells) o.here;
-        cover = ap (λ (c : Cell). c.cover) o.here;
-        elsewhere = o.elsewhere;
-      }
+  passed_obeyed i (Some j) q e p = subst (Left meaning x y j) (raised_ok ((meaning x).quoted j) q e) p.left
 
   pub passed_taken : (d : Option Instruction) → Passed meaning x y d → (meaning y).taken ≡ (meaning x).taken
   passed_taken None p = ap (λ z. (meaning z).taken) p

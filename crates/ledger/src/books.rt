@@ -33,13 +33,8 @@ pub trait Book: Ledger {
 
 // What a book that takes so many accounts answers, where the cell holds `before`: it only fills, within reach, and not
 // where it is full.
-pub fn fill_quote(
-    accounts: usize,
-    before: i64,
-    is_full: bool,
-    i: Instruction,
-) -> Result<Quote, Fault>
-    ensures { result ≡ filled accounts before is_full i }
+pub fn fill_quote(accounts: usize, before: i64, full: bool, i: Instruction) -> Result<Quote, Fault>
+    ensures { result ≡ filled accounts before full i }
 {
     check(accounts, i)?;
     if !is_fill(i.action) {
@@ -49,7 +44,7 @@ pub fn fill_quote(
     if !is_within(held) {
         return Err(Fault::found(Reason::Reach));
     }
-    if is_full {
+    if full {
         return Err(Fault::found(Reason::Full));
     }
     Ok(Quote::of_count(held))

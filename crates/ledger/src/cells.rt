@@ -24,7 +24,8 @@ pub struct Instruction {
     pub amount: i64,
 }
 
-// Held, low and high after an instruction.
+// Held, low and high after an instruction. Anyone may make a quote of any numbers: that those of a ledger are in range is
+// said by clauses.
 #[derive(Clone, Copy, PartialEq, Eq, Debug)]
 pub struct Quote {
     pub held: i64,

@@ -36,6 +36,7 @@ pub fn send_below<L: Ledger>(below: &mut L, down: Option<Instruction>)
     ensures passed { Passed L.Ledger.meaning below.old below.new down }
     ensures kept { L.Ledger.keeps below.old below.new }
 {
+    // The answer is the quote's, which the layer has asked for before.
     if let Some(j) = down {
         let _ = below.instruct(j);
     }

@@ -20,7 +20,8 @@ pub trait Ledger {
     fn unused(&self) -> bool
         ensures { Decides result (meaning self.now).unused };
 
-    // The six numbers of a cell.
+    // The six numbers of a cell. Account and series are two numbers here and wherever a cell is named, since this is what every
+    // maker of a ledger writes.
     fn cell(&self, account: usize, series: usize) -> Cell
         ensures { result ≡ (meaning self.now).cell account series };
 

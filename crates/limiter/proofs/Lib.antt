@@ -1,7 +1,10 @@
+mod Arrays
 mod Quantities
+mod Sums
 mod Verdicts
+mod Least
+mod Steps
+mod Numbers
 mod Cells
 mod Keeps
 mod Runs
-mod Filling
-mod Steps

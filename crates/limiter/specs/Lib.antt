@@ -1,3 +1,4 @@
+pub mod Changes
 pub mod States
 pub mod Positions
 pub mod Verdicts

@@ -1,7 +1,7 @@
 -- The ranges in which counts may end, and what they come to for a party. Assumes nothing.
-use Rattle.std.specs.Prelude.{◌≡◌, ℕ, ◌<◌, Bool, cond, ◌&&◌, ◌⊎◌, List, length, ℤ, pos, ◌≤ℤ◌, Some, None, Option, ◌==◌}
-use Rattle.ledger.specs.declared.cells.Instruction.{Instruction}
+use Rattle.std.specs.Prelude.{◌≡◌, ℕ, ◌<◌, cond, ◌⊎◌, List, length, ℤ, pos, ◌≤ℤ◌, Some, None, Option}
 use Rattle.ledger.specs.declared.cells.Quote.{Quote}
+use Rattle.ledger.specs.Cells.{standing}
 use Rattle.ledger.specs.Meanings.{Meaning}
 use Rattle.strikes.specs.declared.strike.Strike.{Strike}
 use Rattle.strikes.specs.Strikes.{prices}
@@ -13,7 +13,7 @@ use Rattle.expiry.specs.Quantities.{flow, flows, extreme, price_at, quantity, Gr
 use Rattle.parties.specs.declared.entry.Entry.{Entry}
 use Rattle.parties.specs.declared.level.Level.{Level}
 use Rattle.parties.specs.Directories.{belongs}
-use Rattle.limiter.specs.declared.change.Change.{Change}
+use Rattle.limiter.specs.Changes.{Change, at_cell}
 use Rattle.limiter.specs.States.{State}
 
 -- a number for each account and series
@@ -27,22 +27,17 @@ pub record Positions : Type 0 where
   pub low : Counts
   pub high : Counts
 
--- the change that an instruction with that quote makes
-abbrev pub change : Instruction → Quote → Change
-change i q = record { account = i.account; series = i.series; low = q.low; high = q.high }
+-- the quote of each cell, as it stands or after a change
+abbrev pub quotes : Meaning → Option Change → ℕ → ℕ → Quote
+quotes m None a s = standing (m.cell a s)
+quotes m (Some k) a s = cond (at_cell k a s) k.quote (standing (m.cell a s))
 
--- whether the change is to this cell
-abbrev pub at_cell : Change → ℕ → ℕ → Bool
-at_cell k a s = a == k.account && s == k.series
-
--- the low and the high of each cell, as it stands or after a change
+-- its low and its high
 abbrev pub lows : Meaning → Option Change → Counts
-lows m None a s = (m.cell a s).low
-lows m (Some k) a s = cond (at_cell k a s) k.low (m.cell a s).low
+lows m k a s = (quotes m k a s).low
 
 abbrev pub highs : Meaning → Option Change → Counts
-highs m None a s = (m.cell a s).high
-highs m (Some k) a s = cond (at_cell k a s) k.high (m.cell a s).high
+highs m k a s = (quotes m k a s).high
 
 -- the positions of a state, as they stand or after a change
 abbrev pub positions : {X : Type 0} → (X → Meaning) → State X → Option Change → Positions

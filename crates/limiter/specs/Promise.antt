@@ -16,10 +16,10 @@ use Rattle.parties.specs.Tables.{limiting}
 use Rattle.calls.specs.declared.Call.{Call}
 use Rattle.calls.specs.declared.Call.TheVariants as call
 use Rattle.calls.specs.declared.Reply.TheVariants as reply
-use Rattle.limiter.specs.declared.change.Change.{Change}
 use Rattle.limiter.specs.declared.phase.Phase.TheVariants.{Started}
 use Rattle.limiter.specs.States.{State, fresh}
-use Rattle.limiter.specs.Positions.{Counts, Positions, change, positions, net_receipt, Possible, Covered, ZeroOrMet, quantity_of}
+use Rattle.limiter.specs.Changes.{Change, change}
+use Rattle.limiter.specs.Positions.{Counts, Positions, positions, net_receipt, Possible, Covered, ZeroOrMet, quantity_of}
 use Rattle.limiter.specs.Steps.{Answer, Step}
 
 -- cancels and executions

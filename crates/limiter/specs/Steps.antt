@@ -1,21 +1,23 @@
 -- What one call answers and leaves. Assumes nothing.
-use Rattle.std.specs.Prelude.{◌≡◌, ℕ, ◌/◌, ◌%◌, Bool, List, [], ◌∷◌, ◌++◌, ℤ, ◌-ℤ◌, Some, None, Ok, Err, Decides, Option, Result}
+use Rattle.std.specs.Prelude.{◌≡◌, ℕ, ◌/◌, ◌%◌, Bool, List, [], ◌∷◌, ◌++◌, map, ℤ, ◌-ℤ◌, None, Ok, Err, Decides, Option, Result}
+use Rattle.std.specs.List.{flat_map}
+use Rattle.std.specs.Option.{option_map}
 use Rattle.std.specs.declared.cmp.Reverse.{Reverse}
 use Rattle.ledger.specs.declared.faults.Fault.{Fault}
 use Rattle.ledger.specs.Meanings.{Meaning, Instructed}
-use Rattle.greatest.specs.declared.headrooms.Headroom.{Headroom}
-use Rattle.greatest.specs.declared.headrooms.Headroom.TheVariants.{Missing, Left}
 use Rattle.greatest.specs.Greatest.{Stands}
 use Rattle.greatest.specs.Headrooms.{rank, opposite}
 use Rattle.expiry.specs.declared.side.Side.{Side}
 use Rattle.expiry.specs.declared.side.Side.TheVariants.{Long, Short}
-use Rattle.expiry.specs.declared.quantity.Quantities.{Quantities}
+use Rattle.expiry.specs.declared.quantity.Quantity.{Quantity}
+use Rattle.expiry.specs.declared.side.BySide.{BySide}
 use Rattle.expiry.specs.Near.{Near}
 use Rattle.expiry.specs.Sides.{side_at}
 use Rattle.parties.specs.declared.level.Level.{Level}
-use Rattle.parties.specs.declared.level.Level.TheVariants.{Account, Holder, Group, Participant}
-use Rattle.parties.specs.Levels.{level_at}
-use Rattle.parties.specs.Directories.{party}
+use Rattle.parties.specs.declared.path.Path.{Path}
+use Rattle.parties.specs.Paths.{party_on}
+use Rattle.parties.specs.Levels.{level_at, levels}
+use Rattle.parties.specs.Directories.{path_of}
 use Rattle.parties.specs.Limits.{with_limit}
 use Rattle.calls.specs.declared.PartyNumber.{PartyNumber}
 use Rattle.calls.specs.declared.Tightest.{Tightest}
@@ -26,43 +28,42 @@ use Rattle.calls.specs.declared.Reply.TheVariants as reply
 use Rattle.limiter.specs.declared.phase.Phase.TheVariants.{Setup, Started}
 use Rattle.limiter.specs.States.{State}
 use Rattle.limiter.specs.Positions.{positions, quantity_of, Told}
-use Rattle.limiter.specs.Verdicts.{Verdict, verdict}
+use Rattle.limiter.specs.Verdicts.{Verdict, sides, verdict}
 
 -- the reply to an obeyed call, or the refusal
 abbrev pub Answer : Type 0
 Answer = Result Reply Fault
 
 -- what a limit leaves above a quantity
-abbrev pub headroom : Option ℤ → ℤ → Headroom
-headroom None q = Missing
-headroom (Some m) q = Left (m -ℤ q)
+abbrev pub headroom : Option ℤ → ℤ → Option ℤ
+headroom limit q = option_map (λ m. m -ℤ q) limit
 
 -- one entry for each check on a path, in the order of checks
 abbrev pub by_check : {A : Type 0} → (Level → Side → A) → List A
-by_check f = f Account Long ∷ f Account Short ∷ f Holder Long ∷ f Holder Short ∷ f Group Long ∷ f Group Short ∷ f Participant Long ∷ f Participant Short ∷ []
+by_check f = flat_map (λ level. map (f level) sides) levels
 
 module _ {X : Type 0} (meaning : X → Meaning) where
-  -- the headroom on a side of account a's party at a level
-  abbrev pub headroom_at : State X → ℕ → Level → Side → Headroom
-  headroom_at s a level side = headroom (s.limits level (party s.entries level a) side) (quantity_of (positions meaning s None) level (party s.entries level a) side)
+  -- the headroom on a side of a party
+  abbrev pub headroom_of : State X → Level → ℕ → Side → Option ℤ
+  headroom_of s level p side = headroom (s.limits level p side) (quantity_of (positions meaning s None) level p side)
 
   -- those of the path, for the order reversed
-  abbrev pub path_headrooms : State X → ℕ → List (Reverse Headroom)
-  path_headrooms s a = by_check (λ level side. record { 0 = headroom_at s a level side })
+  abbrev pub path_headrooms : State X → Path → List (Reverse (Option ℤ))
+  path_headrooms s p = by_check (λ level side. record { 0 = headroom_of s level (party_on p level) side })
 
   -- both quantities of a party, each far below the highest limit
-  pub record Asked (s : State X) (n : PartyNumber) (q : Quantities) : Type 0 where
+  pub record Asked (s : State X) (n : PartyNumber) (q : BySide Quantity) : Type 0 where
     pub long : Told (positions meaning s None) (level_at n.level) n.party Long q.long
     pub short : Told (positions meaning s None) (level_at n.level) n.party Short q.short
     pub near : Near 20480000000000000 q.long.value × Near 20480000000000000 q.short.value
 
-  -- the first least headroom on account a's path, where the check k is at level k / 2 and side k % 2
-  pub record Least (s : State X) (a : ℕ) (t : Tightest) : Type 0 where
+  -- the first least headroom on a path, where the check k is at level k / 2 and side k % 2
+  pub record Least (s : State X) (p : Path) (t : Tightest) : Type 0 where
     pub check : ℕ
-    pub stands : Stands (opposite rank) (path_headrooms s a) (record { first = check })
+    pub stands : Stands (opposite rank) (path_headrooms s p) (record { first = check })
     pub level : t.level ≡ level_at (check / 2)
     pub side : t.side ≡ side_at (check % 2)
-    pub headroom : t.headroom ≡ headroom_at s a t.level t.side
+    pub headroom : t.headroom ≡ headroom_of s t.level (party_on p t.level) t.side
 
   -- the reply to an obeyed call
   abbrev pub Replies : State X → Call → Answer → Type 0
@@ -71,8 +72,8 @@ module _ {X : Type 0} (meaning : X → Meaning) where
   Replies s call.Start r = r ≡ Ok reply.Done
   Replies s (call.Limit n) r = r ≡ Ok reply.Done
   Replies s (call.Instruct i) r = r ≡ Ok reply.Done
-  Replies s (call.Quantities n) r = (q : Quantities) × (r ≡ Ok (reply.Quantities q)) × Asked s n q
-  Replies s (call.Tightest a) r = (t : Tightest) × (r ≡ Ok (reply.Tightest t)) × Least s a t
+  Replies s (call.Quantities n) r = (q : BySide Quantity) × (r ≡ Ok (reply.Quantities q)) × Asked s n q
+  Replies s (call.Tightest a) r = (t : Tightest) × (r ≡ Ok (reply.Tightest t)) × Least s (path_of s.entries a) t
 
   -- what an obeyed call does to the ledger, from x to y: only an instruction reaches it
   abbrev pub Moved : X → Call → X → Type 0

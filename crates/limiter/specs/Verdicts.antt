@@ -1,5 +1,5 @@
 -- Why a call is declined: the checks of each call, in their order. Assumes nothing.
-use Rattle.std.specs.Prelude.{ℕ, ◌+◌, ◌*◌, Bool, cond, ◌&&◌, length, ℤ, Some, None, Ok, Err, Option, Result, int_le, nat_le, nat_lt}
+use Rattle.std.specs.Prelude.{ℕ, ◌+◌, ◌*◌, Bool, cond, ◌&&◌, List, [], ◌∷◌, length, ℤ, Some, None, Ok, Err, Option, Result, int_le, nat_le, nat_lt}
 use Rattle.ledger.specs.declared.cells.Instruction.{Instruction}
 use Rattle.ledger.specs.declared.cells.Quote.{Quote}
 use Rattle.ledger.specs.declared.faults.Fault.{Fault}
@@ -12,22 +12,22 @@ use Rattle.ledger.specs.Meanings.{Meaning}
 use Rattle.strikes.specs.Classes.{extended}
 use Rattle.expiry.specs.declared.side.Side.{Side}
 use Rattle.expiry.specs.declared.side.Side.TheVariants.{Long, Short}
-use Rattle.expiry.specs.declared.quantity.Quantities.{Quantities}
 use Rattle.expiry.specs.Sides.{side_number, side_at}
 use Rattle.parties.specs.declared.level.Level.{Level}
-use Rattle.parties.specs.declared.level.Level.TheVariants.{Account, Holder, Group, Participant}
-use Rattle.parties.specs.Levels.{level_number, level_at}
-use Rattle.parties.specs.Directories.{party, enrolled}
+use Rattle.parties.specs.Levels.{level_number, level_at, levels}
+use Rattle.parties.specs.declared.path.Path.{Path}
+use Rattle.parties.specs.Paths.{party_on}
+use Rattle.parties.specs.Directories.{path_of, enrolled}
 use Rattle.parties.specs.Tables.{limiting}
 use Rattle.calls.specs.declared.PartyNumber.{PartyNumber}
 use Rattle.calls.specs.declared.NewLimit.{NewLimit}
 use Rattle.calls.specs.declared.Call.{Call}
 use Rattle.calls.specs.declared.Call.TheVariants as call
-use Rattle.limiter.specs.declared.change.Change.{Change}
 use Rattle.limiter.specs.declared.phase.Phase.{Phase}
 use Rattle.limiter.specs.declared.phase.Phase.TheVariants.{Setup, Started}
 use Rattle.limiter.specs.States.{State}
-use Rattle.limiter.specs.Positions.{change, positions, quantity_of}
+use Rattle.limiter.specs.Changes.{Change, change}
+use Rattle.limiter.specs.Positions.{positions, quantity_of}
 
 -- passed, or the first refusal
 abbrev pub Verdict : Type 0
@@ -37,10 +37,19 @@ Verdict = Result (Unit {0}) Fault
 abbrev pub require : Bool → Fault → Verdict
 require b f = cond b (Ok tt) (Err f)
 
+-- the order of the sides
+abbrev pub sides : List Side
+sides = Long ∷ Short ∷ []
+
 -- one check before another
 infixr 20 ◌before◌
 abbrev pub ◌before◌ : Verdict → Verdict → Verdict
 a before b = a then (λ _. b)
+
+-- a check of each thing in turn
+abbrev pub each : {A : Type 0} → (A → Verdict) → List A → Verdict
+each f [] = Ok tt
+each f (x ∷ xs) = f x before each f xs
 
 -- where on a path a check is: 2 × level + side
 abbrev pub spot : Level → Side → ℕ
@@ -53,10 +62,6 @@ found_at r level side = record { reason = r; depth = 0; spot = spot level side }
 abbrev pub allowed : Option ℤ → ℤ → Level → Side → Verdict
 allowed None q level side = Err (found_at reason.NoLimit level side)
 allowed (Some m) q level side = require (int_le q m) (found_at reason.Limit level side)
-
--- both sides of a party, long before short
-abbrev pub both_allowed : Option ℤ → Option ℤ → Quantities → Level → Verdict
-both_allowed long short q level = allowed long q.long.value level Long before allowed short q.short.value level Short
 
 -- a level, a party and a side that exist
 abbrev pub known_party : ℕ → ℕ → Bool
@@ -85,18 +90,15 @@ module _ {X : Type 0} (meaning : X → Meaning) where
 
   -- long before short
   abbrev pub party_verdict : State X → Option Change → Level → ℕ → Verdict
-  party_verdict s k level p = side_verdict s k level p Long before side_verdict s k level p Short
+  party_verdict s k level p = each (side_verdict s k level p) sides
 
-  abbrev pub level_verdict : State X → Option Change → ℕ → Level → Verdict
-  level_verdict s k a level = party_verdict s k level (party s.entries level a)
-
-  -- along the path of account a
-  abbrev pub path_verdict : State X → Option Change → ℕ → Verdict
-  path_verdict s k a = level_verdict s k a Account before level_verdict s k a Holder before level_verdict s k a Group before level_verdict s k a Participant
+  -- along a path, from the account up
+  abbrev pub path_verdict : State X → Option Change → Path → Verdict
+  path_verdict s k p = each (λ level. party_verdict s k level (party_on p level)) levels
 
   -- the ledger's refusal, one deeper, or the checks along the path
   abbrev pub quote_verdict : State X → Instruction → Result Quote Fault → Verdict
-  quote_verdict s i (Ok q) = path_verdict s (Some (change i q)) i.account
+  quote_verdict s i (Ok q) = path_verdict s (Some (change i q)) (path_of s.entries i.account)
   quote_verdict s i (Err f) = Err (deeper f)
 
   abbrev pub instruct_verdict : State X → Instruction → Verdict

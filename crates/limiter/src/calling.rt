@@ -1,20 +1,18 @@
 // One call on a limiter, obeyed or declined.
-ghost use Rattle.std.specs.Prelude.{◌≡◌, Some, int_le};
-ghost use Rattle.expiry.specs.Sides.{side_of_number};
+ghost use Rattle.std.specs.Prelude.{◌≡◌};
+ghost use Rattle.expiry.specs.Sides.{side_number};
 ghost use Rattle.strikes.specs.Classes.{strikes_of, extended};
 ghost use Rattle.parties.specs.Directories.{entries_of, enrolled};
-ghost use Rattle.parties.specs.Levels.{level_of_number};
+ghost use Rattle.parties.specs.Levels.{level_number};
 ghost use Rattle.limiter.specs.States.{state_of};
 ghost use Rattle.limiter.specs.Verdicts.{limit_verdict, instruct_verdict};
 ghost use Rattle.limiter.specs.Steps.{Follows, Step};
 ghost use Rattle.limiter.specs.Promise.{Extends};
-ghost use Rattle.limiter.specs.Sums.{side_part};
 
 use crate::Limiter;
-use crate::checking::fault_at;
+use crate::checking::check_most;
 use crate::phase::Phase;
 use calls::{Call, NewLimit, Reply};
-use expiry::quantity::{Quantities, Quantity};
 use expiry::side::Side;
 use ledger::cells::Instruction;
 use ledger::checks::WIDTH;
@@ -24,23 +22,6 @@ use parties::bounds::is_limit;
 use parties::entry::Entry;
 use parties::level::Level;
 use strikes::strike::Strike;
-
-// The quantity of a side.
-fn on_side(side: Side, quantities: Quantities) -> Quantity
-    ensures { result ≡ side_part side quantities }
-{
-    match side {
-        Side::Long => quantities.long,
-        Side::Short => quantities.short,
-    }
-}
-
-// Whether the limit is not below the quantity.
-fn is_enough(n: NewLimit, quantity: Quantity) -> bool
-    ensures { result ≡ int_le quantity.value n.limit }
-{
-    quantity.value <= n.limit
-}
 
 impl<L: Ledger> Limiter<L> {
     fn add_strike(&mut self, strike: Strike) -> Result<Reply, Fault>
@@ -58,35 +39,20 @@ impl<L: Ledger> Limiter<L> {
         Ok(Reply::Done)
     }
 
-    // The limit exists, is in its range and is not below the quantity.
-    fn check_limit(&self, level: Level, side: Side, n: NewLimit) -> Result<(), Fault>
-        requires level { Some level ≡ level_of_number n.level }
-        requires side { Some side ≡ side_of_number n.side }
-        ensures { result ≡ limit_verdict L.Ledger.meaning (state_of self.now) n }
+    fn set_limit(&mut self, n: NewLimit) -> Result<Reply, Fault>
+        ensures { Follows L.Ledger.meaning (state_of self.old) (Call.Limit n) (limit_verdict L.Ledger.meaning (state_of self.old) n) result (state_of self.new) }
     {
+        let level = Level::try_from(n.level)?;
+        let side = Side::try_from(n.side)?;
         if n.party >= WIDTH {
             return Err(Fault::found(Reason::Unknown));
         }
         if !is_limit(n.limit) {
             return Err(Fault::found(Reason::Amount));
         }
-        let quantity = on_side(side, self.party_quantities(level, n.party, None));
-        if !is_enough(n, quantity) {
-            return Err(fault_at(Reason::InUse, level, side));
-        }
-        Ok(())
-    }
-
-    fn set_limit(&mut self, n: NewLimit) -> Result<Reply, Fault>
-        ensures { Follows L.Ledger.meaning (state_of self.old) (Call.Limit n) (limit_verdict L.Ledger.meaning (state_of self.old) n) result (state_of self.new) }
-    {
-        let Some(level) = Level::from_number(n.level) else {
-            return Err(Fault::found(Reason::Unknown));
-        };
-        let Some(side) = Side::from_number(n.side) else {
-            return Err(Fault::found(Reason::Unknown));
-        };
-        self.check_limit(level, side, n)?;
+        let quantity = self.party_quantities(level, n.party, None).on(side);
+        check_most(quantity, n.limit, Reason::InUse, level, side)?;
+        // It cannot refuse: party and limit were checked just before.
         let _ = self.limits.set(level, n.party, side, n.limit);
         Ok(Reply::Done)
     }
@@ -96,14 +62,14 @@ impl<L: Ledger> Limiter<L> {
         ensures kept { L.Ledger.keeps self.old.ledger self.new.ledger }
     {
         self.admit(i)?;
+        // It cannot refuse: it was quoted just before.
         let _ = self.ledger.instruct(i);
         Ok(Reply::Done)
     }
 
     // Answers exactly as defined, and leaves exactly the state defined. A decline changes nothing.
-    pub fn call(&mut self, call: Call) -> Result<Reply, Fault>
-        ensures step { Step L.Ledger.meaning L.Ledger.keeps (state_of self.old) call result (state_of self.new) }
-        ensures extends { Extends L.Ledger.meaning L.Ledger.keeps (state_of self.old) call result (state_of self.new) }
+    fn answer(&mut self, call: Call) -> Result<Reply, Fault>
+        ensures { Step L.Ledger.meaning L.Ledger.keeps (state_of self.old) call result (state_of self.new) }
     {
         match (self.phase, call) {
             (_, Call::Limit(n)) => self.set_limit(n),
@@ -119,10 +85,16 @@ impl<L: Ledger> Limiter<L> {
                 Ok(Reply::Done)
             }
             (Phase::Started, Call::Instruct(i)) => self.instruct(i),
-            (Phase::Started, Call::Strike(_)) => Err(Fault::found(Reason::Phase)),
-            (Phase::Started, Call::Account(_)) => Err(Fault::found(Reason::Phase)),
-            (Phase::Started, Call::Start) => Err(Fault::found(Reason::Phase)),
-            (Phase::Setup, Call::Instruct(_)) => Err(Fault::found(Reason::Phase)),
+            (Phase::Started, Call::Strike(_) | Call::Account(_) | Call::Start)
+            | (Phase::Setup, Call::Instruct(_)) => Err(Fault::found(Reason::Phase)),
         }
+    }
+
+    // One call more of a run.
+    pub fn call(&mut self, call: Call) -> Result<Reply, Fault>
+        ensures step { Step L.Ledger.meaning L.Ledger.keeps (state_of self.old) call result (state_of self.new) }
+        ensures extends { Extends L.Ledger.meaning L.Ledger.keeps (state_of self.old) call result (state_of self.new) }
+    {
+        self.answer(call)
     }
 }

@@ -1,119 +1,100 @@
 // The checks along an account's path.
-ghost use Rattle.std.specs.Prelude.{◌≡◌, ℕ, ◌<◌, length, Some, OnOk};
-ghost use Rattle.ledger.specs.Cells.{Ranged};
-ghost use Rattle.parties.specs.Directories.{entries_of};
+ghost use Rattle.std.specs.Prelude.{◌≡◌, Ok, Err, MatchResult, int_le};
+ghost use Rattle.parties.specs.Directories.{entries_of, path_of};
+ghost use Rattle.std.specs.Option.{option_copied};
 ghost use Rattle.limiter.specs.States.{state_of};
-ghost use Rattle.limiter.specs.Positions.{change};
-ghost use Rattle.limiter.specs.Verdicts.{found_at, allowed, both_allowed, level_verdict, path_verdict, own_verdict, instruct_verdict};
-ghost use Rattle.limiter.specs.Sums.{InReach};
+ghost use Rattle.limiter.specs.Verdicts.{require, found_at, allowed, party_verdict, path_verdict, own_verdict, instruct_verdict};
 
 use crate::Limiter;
 use crate::change::Change;
-use expiry::quantity::{Quantities, Quantity};
+use expiry::quantity::Quantity;
 use expiry::side::Side;
-use ledger::cells::{Instruction, Quote};
+use ledger::cells::Instruction;
 use ledger::checks::check;
 use ledger::faults::{Fault, Reason};
 use ledger::layering::ask_below;
 use ledger::ledgers::Ledger;
 use parties::level::Level;
+use parties::path::Path;
 
 // A refusal found at a side of a level.
-pub(crate) fn fault_at(reason: Reason, level: Level, side: Side) -> Fault
+fn fault_at(reason: Reason, level: Level, side: Side) -> Fault
     ensures { result ≡ found_at reason level side }
 {
     Fault {
-        reason,
-        depth: 0,
-        spot: 2 * level.number() + side.number(),
+        spot: 2 * usize::from(level) + usize::from(side),
+        ..Fault::found(reason)
     }
+}
+
+// The quantity does not exceed the most that it may be.
+pub(crate) fn check_most(
+    quantity: Quantity,
+    most: i64,
+    reason: Reason,
+    level: Level,
+    side: Side,
+) -> Result<(), Fault>
+    ensures { result ≡ require (int_le quantity.value most) (found_at reason level side) }
+{
+    if quantity.value > most {
+        return Err(fault_at(reason, level, side));
+    }
+    Ok(())
 }
 
 // One check: the limit is there, and the quantity does not exceed it.
 fn check_side(limit: Option<i64>, quantity: Quantity, level: Level, side: Side) -> Result<(), Fault>
     ensures { result ≡ allowed limit quantity.value level side }
 {
-    let Some(most) = limit else {
-        return Err(fault_at(Reason::NoLimit, level, side));
-    };
-    if quantity.value > most {
-        return Err(fault_at(Reason::Limit, level, side));
-    }
-    Ok(())
-}
-
-// Both sides of a party, long before short.
-fn check_sides(
-    long: Option<i64>,
-    short: Option<i64>,
-    quantities: Quantities,
-    level: Level,
-) -> Result<(), Fault>
-    ensures { result ≡ both_allowed long short quantities level }
-{
-    check_side(long, quantities.long, level, Side::Long)?;
-    check_side(short, quantities.short, level, Side::Short)
-}
-
-// The change that an instruction with that quote makes.
-fn changed(i: Instruction, q: Quote) -> Change
-    requires { Ranged q }
-    ensures value { result ≡ change i q }
-    ensures reach { InReach (Some result) }
-{
-    Change {
-        account: i.account,
-        series: i.series,
-        low: q.low,
-        high: q.high,
-    }
+    let most = limit.ok_or(fault_at(Reason::NoLimit, level, side))?;
+    check_most(quantity, most, Reason::Limit, level, side)
 }
 
 impl<L: Ledger> Limiter<L> {
-    // An account's party at a level.
-    fn check_level(&self, level: Level, account: usize, change: Option<Change>) -> Result<(), Fault>
-        requires added { account < length (entries_of self.now.directory) }
-        requires reach { InReach change }
-        ensures { result ≡ level_verdict L.Ledger.meaning (state_of self.now) change account level }
+    // Both sides of a party.
+    fn check_party(&self, level: Level, party: usize, change: Option<&Change>) -> Result<(), Fault>
+        ensures { result ≡ party_verdict L.Ledger.meaning (state_of self.now) (option_copied change.entry) level party }
     {
-        let Some(party) = self.directory.party(level, account) else {
-            return Ok(());
-        };
         let quantities = self.party_quantities(level, party, change);
-        let long = self.limits.get(level, party, Side::Long);
-        let short = self.limits.get(level, party, Side::Short);
-        check_sides(long, short, quantities, level)
+        for side in [Side::Long, Side::Short] {
+            let limit = self.limits.get(level, party, side);
+            check_side(limit, quantities.on(side), level, side)?;
+        }
+        Ok(())
     }
 
-    // The whole path of an account.
-    pub(crate) fn check_path(&self, account: usize, change: Option<Change>) -> Result<(), Fault>
-        requires added { account < length (entries_of self.now.directory) }
-        requires reach { InReach change }
-        ensures { result ≡ path_verdict L.Ledger.meaning (state_of self.now) change account }
+    // A whole path.
+    fn check_path(&self, path: Path, change: Option<&Change>) -> Result<(), Fault>
+        ensures { result ≡ path_verdict L.Ledger.meaning (state_of self.now) (option_copied change.entry) path }
     {
-        self.check_level(Level::Account, account, change)?;
-        self.check_level(Level::Holder, account, change)?;
-        self.check_level(Level::Group, account, change)?;
-        self.check_level(Level::Participant, account, change)
+        for level in Level::ALL {
+            self.check_party(level, path.party(level), change)?;
+        }
+        Ok(())
     }
 
-    // An added account, a series of a strike, and then a proper amount.
-    fn check_own(&self, i: Instruction) -> Result<(), Fault>
-        ensures answer { result ≡ own_verdict (state_of self.now) i }
-        ensures passed { OnOk result (i.account < length (entries_of self.now.directory)) }
+    // An added account, a series of a strike, and then a proper amount: the path that is to be checked.
+    fn check_own(&self, i: Instruction) -> Result<Path, Fault>
+        ensures { MatchResult result (λ path. (own_verdict (state_of self.now) i ≡ Ok tt) × (path ≡ path_of (entries_of self.now.directory) i.account)) (λ fault. own_verdict (state_of self.now) i ≡ Err fault) }
     {
+        let path = self
+            .directory
+            .path(i.account)
+            .ok_or(Fault::found(Reason::Unknown))?;
         if i.series >= 2 * self.class.count() {
             return Err(Fault::found(Reason::Unknown));
         }
-        check(self.directory.count(), i)
+        check(self.directory.count(), i)?;
+        Ok(path)
     }
 
     // All checks of an instruction, in their order.
     pub(crate) fn admit(&self, i: Instruction) -> Result<(), Fault>
         ensures { result ≡ instruct_verdict L.Ledger.meaning (state_of self.now) i }
     {
-        self.check_own(i)?;
+        let path = self.check_own(i)?;
         let quote = ask_below(&self.ledger, i.account, i.series, Some(i))?;
-        self.check_path(i.account, Some(changed(i, quote)))
+        self.check_path(path, Some(&Change::new(i, quote)))
     }
 }

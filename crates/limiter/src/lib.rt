@@ -6,9 +6,9 @@ mod calling;
 mod change;
 mod checking;
 mod phase;
+mod range;
 mod running;
 mod summing;
-mod sums;
 
 use ledger::ledgers::Ledger;
 use parties::{Directory, Limits};

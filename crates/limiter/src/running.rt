@@ -34,7 +34,7 @@ impl<L: Ledger> Limiter<L> {
         }
     }
 
-    // The ledger, for reading.
+    // The ledger, for reading. Not shared with the layers' `below`: a limiter takes calls and is no layer.
     pub fn ledger(&self) -> &L
         ensures { result.now ≡ self.now.ledger }
     {

@@ -1,108 +1,83 @@
--- Text in a buffer of 64 bytes. Assumes nothing.
-use Rattle.std.proofs.Common.{◌≡◌, ℕ, suc, ◌+◌, ◌-◌, ◌*◌, ◌/◌, ◌%◌, ◌^◌, ◌<◌, ◌≤◌, min, cond, not, List, [], ◌∷◌, ◌++◌, length, take, set, replicate, ℤ, pos, negsuc, nat_abs, ◌<ℤ◌, decimal, sym, refl, ap, ◌∙◌, subst, inl, inr, append_assoc, append-nil, one-add, arith, w64, SFits, to_z, of_z}
+-- The texts of lines, and the buffers that they fill. Assumes nothing.
+use Rattle.std.proofs.Common.{◌≡◌, ℕ, suc, ◌+◌, ◌-◌, ◌^◌, ◌<◌, ◌≤◌, true, false, Bool, cond, not, ltb, eqb, List, [], ◌∷◌, ◌++◌, length, get_or, take, drop, set, replicate, ℤ, pos, negsuc, Some, None, Ok, Err, MatchOption, Option, Result, position, codes, decimal, sym, refl, ap, ◌∙◌, subst, inl, inr, append_assoc, one-add, arith, ltb-false, take_all}
 use lib.Signed.{mag}
 use Rattle.std.specs.List.{prefix_len, AllByRecursion}
 use Rattle.std.specs.Fmt.{signed_decimal}
-use Rattle.std.proofs.lemmas.Fmt.{decimal_by_steps, decimal_step, length-decimal-le, length_signed_le}
-use Rattle.std.proofs.ByRecursion.{All-push}
-use Rattle.std.proofs.lemmas.List.{set_at, take_at, take_all, length_push, length-append}
-use Rattle.std.proofs.lemmas.Int.{ints, to_z-of_z}
-use Rattle.std.proofs.lemmas.List.Sums.{fold_push}
+use Rattle.std.proofs.lemmas.Fmt.{decimal_digit, decimal_nonempty, first_decimal, digits_decimal, digits_value-decimal}
+use Rattle.std.proofs.ByRecursion.{All-weaker, All-append}
+use Rattle.std.proofs.lemmas.List.{set_at, take_at, length_push, drop-replicate}
 use Rattle.std.proofs.lemmas.Bool.{ne_eqb, cases_lt}
-use Rattle.lines.specs.declared.writing.Writer.{Writer}
-use Rattle.lines.specs.Fields.{Digit, value, Leads, Decimal, WithSign}
-use Rattle.lines.specs.Output.{Inside, Filled, goes_on, printed}
-use Rattle.lines.specs.Writing.{Holds, Appends}
+use Rattle.ledger.specs.declared.cells.Quote.{Quote}
+use Rattle.ledger.specs.declared.faults.Fault.{Fault}
+use Rattle.ledger.specs.declared.books.Holding.{Holding}
+use Rattle.ledger.specs.Faults.{number}
+use Rattle.lines.specs.Fields.{Digit, Leads, Decimal, WithSign}
+use Rattle.lines.specs.Output.{Inside, Filled, ◌beside◌, AnswerText, SheetText, AnswerLine, SheetLine, goes_on, printed}
+use Rattle.lines.proofs.Digits.{numerals}
 
--- a byte behind the text
-put : (w : Writer) (b : ℕ) (text : List ℕ) → Holds w text → set w.bytes w.len b ≡ text ++ b ∷ replicate (63 - length text) 0
-put w b text h =
-    let f = h.fits in
-    let n : 64 - length text ≡ suc (63 - length text) = omega arith in
-    ap (λ s. set s w.len b) (h.bytes ∙ ap (λ m. text ++ replicate m 0) n) ∙ set_at text 0 (replicate (63 - length text) 0) b w.len (sym h.size)
-
--- a byte that is not 10 is one more of the text
-pub one_more : (w : Writer) (b : ℕ) → w.len < 63 → Inside b → Appends w (record { bytes = set w.bytes w.len b; len = w.len + 1 }) (b ∷ [])
-one_more w b lt ok = record {
-  size = refl;
-  holds = λ text h.
-      let s = h.size in
-      let l : length (text ++ b ∷ []) ≡ length text + 1 = length_push text b in
-      let n : 63 - length text ≡ 64 - length (text ++ b ∷ []) = omega arith in
-      record {
-        size = omega arith;
-        fits = omega arith;
-        bytes = put w b text h ∙ sym (append_assoc text (b ∷ []) (replicate (63 - length text) 0)) ∙ ap (λ m. (text ++ b ∷ []) ++ replicate m 0) n;
-        inside = All-push Inside text b h.inside ok;
-      };
-}
-
--- byte 10 takes the first of the zeros
-pub ended : (w : Writer) (text : List ℕ) → Holds w text → Filled text (set w.bytes w.len 10)
-ended w text h = record { fits = h.fits; holds = put w 10 text h; inside = h.inside }
-
--- nothing added
-pub appends_none : (w : Writer) → Appends w w []
-appends_none w = record { size = omega arith; holds = λ text h. subst (Holds w) (sym (append-nil text)) h }
-
--- one text added behind another
-pub appends_then : {u v w : Writer} {x y : List ℕ} → Appends u v x → Appends v w y → Appends u w (x ++ y)
-appends_then {u} {v} {w} {x} {y} g h = record {
-  size = omega (arith, g.size, h.size, length-append x y);
-  holds = λ text k. subst (Holds w) (append_assoc text x y) (h.holds (text ++ x) (g.holds text k));
-}
-
--- the same text in other words
-pub appends_as : {v w : Writer} {x y : List ℕ} → x ≡ y → Appends v w x → Appends v w y
-appends_as {v} {w} {x} {y} e h = subst (Appends v w) e h
+-- a text at the start of 64 zeros, with byte 10 behind it
+pub buffered : (text copied : List ℕ) (n : ℕ) → copied ≡ text → length text ≡ n → n ≤ 63 → set (copied ++ drop n (replicate 64 0)) n 10 ≡ text ++ 10 ∷ replicate (63 - length text) 0
+buffered text copied n e l m =
+    let k : 64 - n ≡ suc (63 - length text) = omega arith in
+    ap (λ s. set s n 10) (ap (λ x. x ++ drop n (replicate 64 0)) e ∙ ap (λ x. text ++ x) (drop-replicate n 64 0 ∙ ap (λ j. replicate j 0) k)) ∙ set_at text 0 (replicate (63 - length text) 0) 10 n l
 
 -- ---- the digits of a number
 
--- a number below 10 is one digit
-one_digit : (n : ℕ) → n < 10 → Decimal n ((48 + n) ∷ [])
-one_digit n l = record { digits = ((omega arith, omega arith), tt); leads = λ _. refl; stands = omega arith }
+-- the first digit is not 0
+leads_with : (ds : List ℕ) → 0 < length ds → 48 < get_or ds 0 0 → Leads ds
+leads_with [] l h = absurd (omega arith)
+leads_with (d ∷ ds) l h = λ e. absurd (omega arith)
 
--- behind the digits of n / 10, which is not 0, stands the last digit of n
-one_digit_more : (n : ℕ) (ds : List ℕ) → 10 ≤ n → Decimal (n / 10) ds → Decimal n (ds ++ ((48 + n % 10) ∷ []))
-one_digit_more n ds l h = record {
-  digits = All-push Digit ds (48 + n % 10) h.digits (omega arith, omega arith);
-  leads = still ds h.leads h.stands;
-  stands = fold_push (λ m d. m * 10 + (d - 48)) 0 ds (48 + n % 10) ∙ (let e = h.stands in omega arith);
-}
-  where
-    still : (es : List ℕ) → Leads es → value es ≡ n / 10 → Leads (es ++ ((48 + n % 10) ∷ []))
-    still [] g e = absurd g
-    still (d ∷ es) g e = λ z. absurd (let q : value (d ∷ es) ≡ 0 = ap value (ap (λ t. d ∷ t) (g z)) ∙ (let y : 0 * 10 + (d - 48) ≡ 0 = omega arith in y) in omega arith)
+-- or the digits are those of 0
+leading : (n : ℕ) → n < 2 ^ 64 → Leads (decimal n)
+leading n l = elim (cases_lt 0 n) [
+  | inl p ↦ leads_with (decimal n) (decimal_nonempty n l) (first_decimal n p l)
+  | inr z ↦ let e : n ≡ 0 = omega arith in subst Leads (sym (ap decimal e ∙ decimal_digit 0 (omega arith))) (λ _. refl)
+]
 
--- one digit more
-pub length-decimal_step : (n : ℕ) → 10 ≤ n → n < 2 ^ 64 → length (decimal n) ≡ length (decimal (n / 10)) + 1
-length-decimal_step n l f = ap length (decimal_step n l f) ∙ length_push (decimal (n / 10)) (48 + n % 10)
-
--- by its digits from the first on
+-- what is printed are the digits
 pub decimal_is : (n : ℕ) → n < 2 ^ 64 → Decimal n (decimal n)
-decimal_is n l = decimal_by_steps Decimal one_digit one_digit_more n l
+decimal_is n l = record { digits = digits_decimal numerals n l; leads = leading n l; stands = digits_value-decimal numerals n l }
 
--- with the sign before the digits
+-- with the sign before them
 pub signed_is : (z : ℤ) → mag z < 2 ^ 63 → WithSign Decimal z (signed_decimal z)
 signed_is (pos n) l = decimal_is n (omega arith)
 signed_is (negsuc n) l = (decimal (suc n), refl, decimal_is (suc n) (omega arith))
 
--- 2 ^ 8 has 3 digits
-pub digits_byte : (n : ℕ) → n < 2 ^ 8 → length (decimal n) ≤ 3
-digits_byte n l = length-decimal-le 3 n (omega arith) (omega arith) (omega arith)
+-- ---- no byte of a text is 10
 
--- 2 ^ 64 has 20 digits
-pub digits_word : (n : ℕ) → n < 2 ^ 64 → length (decimal n) ≤ 20
-digits_word n l = length-decimal-le 20 n (omega arith) (omega arith) l
+decimal_inside : (n : ℕ) (ds : List ℕ) → Decimal n ds → AllByRecursion Inside ds
+decimal_inside n ds h = All-weaker Digit Inside (λ b d e. omega (arith, d.0)) ds h.digits
 
--- 2 ^ 63 has 19 digits
-pub digits_signed : (z : ℤ) → mag z < 2 ^ 63 → length (signed_decimal z) ≤ 20
-digits_signed z l = length_signed_le 19 z (omega arith) l
+signed_inside : (z : ℤ) (ds : List ℕ) → WithSign Decimal z ds → AllByRecursion Inside ds
+signed_inside (pos n) ds h = decimal_inside n ds h
+signed_inside (negsuc n) ds h = subst (AllByRecursion Inside) (sym h.1) ((λ e. omega arith), decimal_inside (suc n) h.0 h.2)
 
--- below 0 the sign and the digits
-pub below_zero : (z : ℤ) (n : ℕ) → SFits w64 z → z <ℤ pos 0 → n ≡ nat_abs (to_z w64 (of_z w64 z)) → signed_decimal z ≡ 45 ∷ decimal n
-below_zero (pos m) n f l e = absurd (omega (arith, ints))
-below_zero (negsuc m) n f l e = ap (λ k. 45 ∷ decimal k) (sym (e ∙ ap nat_abs (to_z-of_z w64 (negsuc m) f)))
+beside_inside : (a b : List ℕ) → AllByRecursion Inside a → AllByRecursion Inside b → AllByRecursion Inside (a beside b)
+beside_inside a b g h = All-append Inside a (32 ∷ b) g ((λ e. omega arith), h)
+
+pub answer_inside : (r : Result Quote Fault) (text : List ℕ) → AnswerText r text → AllByRecursion Inside text
+answer_inside (Ok q) text e = subst (AllByRecursion Inside) (sym e) ((λ x. omega arith), ((λ x. omega arith), tt))
+answer_inside (Err f) text (a, b, c, e, x, y, z) = subst (AllByRecursion Inside) (sym e)
+    (beside_inside (codes "no" beside a beside b) c (beside_inside (codes "no" beside a) b (beside_inside (codes "no") a ((λ x. omega arith), ((λ x. omega arith), tt)) (decimal_inside _ a x)) (decimal_inside _ b y)) (decimal_inside _ c z))
+
+pub sheet_inside : (h : Holding) (text : List ℕ) → SheetText h text → AllByRecursion Inside text
+sheet_inside h text (a, b, c, e, x, y, z) = subst (AllByRecursion Inside) (sym e)
+    (beside_inside (codes "p" beside a beside b) c (beside_inside (codes "p" beside a) b (beside_inside (codes "p") a ((λ x. omega arith), tt) (decimal_inside _ a x)) (decimal_inside _ b y)) (signed_inside _ c z))
+
+-- ---- the lines of those texts
+
+pub answer_shown : (r : Result Quote Fault) (text buffer : List ℕ) → AnswerText r text → (AllByRecursion Inside text → Filled text buffer) → AnswerLine r buffer
+answer_shown r text buffer t f = (text, t, f (answer_inside r text t))
+
+-- a refusal with its three numbers
+pub refusal_text : (f : Fault) (n : ℕ) → n ≡ number f.reason → n < 2 ^ 64 → f.depth < 2 ^ 64 → f.spot < 2 ^ 64 → AnswerText (Err f) (codes "no" beside decimal n beside decimal f.depth beside decimal f.spot)
+refusal_text f n e l m k = (decimal n, decimal f.depth, decimal f.spot, refl, subst (λ x. Decimal x (decimal n)) e (decimal_is n l), decimal_is f.depth m, decimal_is f.spot k)
+
+pub sheet_shown : (h : Holding) (text buffer : List ℕ) → h.account < 2 ^ 64 → h.series < 2 ^ 64 → mag h.held < 2 ^ 63 → text ≡ codes "p" beside decimal h.account beside decimal h.series beside signed_decimal h.held → (AllByRecursion Inside text → Filled text buffer) → SheetLine h buffer
+sheet_shown h text buffer l m k e f =
+    let t : SheetText h text = (decimal h.account, decimal h.series, signed_decimal h.held, e, decimal_is h.account l, decimal_is h.series m, signed_is h.held k) in
+    (text, t, f (sheet_inside h text t))
 
 -- ---- what is printed
 
@@ -117,9 +92,10 @@ printed_filled text buffer h =
     let zs = replicate (63 - length text) 0 in
     ap printed h.holds ∙ ap (λ n. take (n + 1) (text ++ 10 ∷ zs)) (leading_inside text zs h.inside) ∙ ap (take (length text + 1)) (sym (append_assoc text (10 ∷ []) zs)) ∙ take_at (text ++ 10 ∷ []) zs (length text + 1) (length_push text 10)
 
--- past the end there is no more to take
-pub take_least : (m : ℕ) (s : List ℕ) → take (min (length s) m) s ≡ take m s
-take_least m s = elim (cases_lt m (length s)) [
-  | inl l ↦ ap (λ n. take n s) (let e : min (length s) m ≡ m = omega arith in e)
-  | inr l ↦ take_all (min (length s) m) s (omega arith) ∙ sym (take_all m s l)
-]
+-- the part up to the first byte 10, or all of it where there is none
+pub printed_at : (s : List ℕ) (r : Option ℕ) → r ≡ position (λ b. eqb b 10) s → MatchOption r (s ≡ printed s) (λ end. take (end + 1) s ≡ printed s)
+printed_at s r e = subst (λ o. MatchOption o (s ≡ printed s) (λ end. take (end + 1) s ≡ printed s)) (sym e) (by_test (ltb (prefix_len goes_on s) (length s)) refl)
+  where
+    by_test : (t : Bool) → ltb (prefix_len goes_on s) (length s) ≡ t → MatchOption (cond t (Some (prefix_len goes_on s)) None) (s ≡ printed s) (λ end. take (end + 1) s ≡ printed s)
+    by_test true p = refl
+    by_test false p = sym (take_all (prefix_len goes_on s + 1) s (omega (arith, ltb-false)))

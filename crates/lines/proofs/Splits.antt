@@ -1,11 +1,21 @@
 -- A text splits into its fields in one way. Assumes nothing.
-use Rattle.std.proofs.Common.{◌≡◌, ℕ, suc, ◌⊎◌, List, [], ◌∷◌, ◌++◌, ℤ, pos, negsuc, sym, refl, ap, ◌∙◌, subst, inl, inr, append-nil, arith}
+use Rattle.std.proofs.Common.{◌≡◌, ℕ, suc, ◌-◌, ◌≤◌, ◌≢◌, ◌⊎◌, List, [], ◌∷◌, ◌++◌, length, get_or, take, drop, ℤ, pos, negsuc, Some, sym, refl, ap, ◌∙◌, subst, inl, inr, append-nil, arith}
 use Rattle.std.specs.List.{AllByRecursion}
 use Rattle.std.proofs.ByRecursion.{All-weaker}
+use Rattle.std.proofs.lemmas.Slice.{first_rest}
+use Rattle.std.proofs.lemmas.Option.{slice_get_within, get_or_from_slice_get}
 use Rattle.lines.specs.declared.fields.Kind.{Kind}
 use Rattle.lines.specs.declared.fields.Kind.TheVariants.{Plain, Signed}
 use Rattle.lines.specs.Fields.{Digit, Short, Field, Parts}
 use Rattle.lines.specs.Reading.{first, Ends}
+
+-- a text by its first byte
+pub cut_first : (b : ℕ) (s : List ℕ) → 1 ≤ length s → get_or s 0 0 ≡ b → s ≡ b ∷ take (length s - 1) (drop 1 s)
+cut_first b s l e = first_rest s 0 (omega arith) ∙ ap (λ x. x ∷ take (length s - 1) (drop 1 s)) e
+
+-- a text that does not begin with a byte
+pub not_first : (b : ℕ) (s : List ℕ) → (1 ≤ length s → get_or s 0 0 ≡ b → ⊥) → Some b ≢ first s
+not_first b s h e = h (slice_get_within s 0 b (sym e)) (get_or_from_slice_get s 0 b 0 (sym e))
 
 -- where two cuts of one text lie, the one front begins the other
 pub cut : (x y f w : List ℕ) → x ++ y ≡ f ++ w → ((u : List ℕ) × (f ≡ x ++ u) × (y ≡ u ++ w)) ⊎ ((b : ℕ) × (u : List ℕ) × (x ≡ f ++ b ∷ u) × (w ≡ b ∷ u ++ y))

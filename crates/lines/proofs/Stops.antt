@@ -9,7 +9,7 @@ use Rattle.lines.proofs.Splits.{Starts, same_field}
 
 -- stuck at once, since no text of P begins as s does
 pub here : (P : List ℕ → Type 0) (s : List ℕ) (from : ℕ) → Begins P [] → ((u : List ℕ) → first u ≡ first s → P u → ⊥) → StuckAt P s from from
-here P s from some none = record { front = []; back = s; split = refl; stuck = record { begins = some; blocked = none }; at = omega arith }
+here P s from some none = record { front = []; back = s; split = refl; begins = some; blocked = none; at = omega arith }
 
 -- behind a byte that every reader took
 pub behind : (P : List ℕ → Type 0) (b : ℕ) (s : List ℕ) (from column : ℕ) → StuckAt (λ t. P (b ∷ t)) s (from + 1) column → StuckAt P (b ∷ s) from column
@@ -17,7 +17,8 @@ behind P b s from column h = record {
   front = b ∷ h.front;
   back = h.back;
   split = ap (λ t. b ∷ t) h.split;
-  stuck = record { begins = h.stuck.begins; blocked = h.stuck.blocked };
+  begins = h.begins;
+  blocked = h.blocked;
   at = omega (arith, h.at);
 }
 
@@ -35,12 +36,10 @@ past_field k z s from after rest t ks column h =
       front = f ++ p;
       back = h.back;
       split = t.split ∙ ap (λ r. f ++ r) h.split ∙ sym (append_assoc f p h.back);
-      stuck = record {
-        begins = (h.stuck.begins.0, (z ∷ h.stuck.begins.1.0, (f, p ++ h.stuck.begins.0, ap (λ r. 32 ∷ r) (append_assoc f p h.stuck.begins.0), t.reads, h.stuck.begins.1.1)));
-        blocked = λ u e g.
-            let st : Starts k ks g.0 f (p ++ u) = same_field k z f rest t.reads t.ends ks g.0 (p ++ u) (first_behind p u h.back e ∙ sym (ap first h.split)) (subst (Parts (k ∷ ks) g.0) (ap (λ r. 32 ∷ r) (append_assoc f p u)) g.1) in
-            h.stuck.blocked u e (st.others, st.rest);
-      };
+      begins = (h.begins.0, (z ∷ h.begins.1.0, (f, p ++ h.begins.0, ap (λ r. 32 ∷ r) (append_assoc f p h.begins.0), t.reads, h.begins.1.1)));
+      blocked = λ u e g.
+          let st : Starts k ks g.0 f (p ++ u) = same_field k z f rest t.reads t.ends ks g.0 (p ++ u) (first_behind p u h.back e ∙ sym (ap first h.split)) (subst (Parts (k ∷ ks) g.0) (ap (λ r. 32 ∷ r) (append_assoc f p u)) g.1) in
+          h.blocked u e (st.others, st.rest);
       at = omega (arith, t.column, h.at, length-append f p);
     }
 

@@ -1,5 +1,5 @@
 -- From the fields of a line to the line. Assumes nothing.
-use Rattle.std.proofs.Common.{◌≡◌, ℕ, ◌+◌, ◌-◌, ◌<◌, ◌≤◌, cond, eqb, List, [], ◌∷◌, ◌++◌, length, get_or, take, drop, ℤ, pos, Some, Ok, Err, Option, Result, sym, refl, ap, ◌∙◌, subst, append_assoc, append-nil, arith, length-append}
+use Rattle.std.proofs.Common.{◌≡◌, ℕ, ◌+◌, ◌-◌, ◌<◌, ◌≤◌, cond, eqb, List, [], ◌∷◌, ◌++◌, length, get_or, take, drop, ℤ, pos, Some, Ok, Err, ◌≢◌, Option, Result, sym, refl, ap, ◌∙◌, subst, append_assoc, append-nil, arith, length-append}
 use Rattle.std.proofs.lemmas.List.{take_at, length_push}
 use Rattle.ledger.specs.declared.actions.Action.{Action}
 use Rattle.ledger.specs.declared.actions.Action.TheVariants.{Fill, PlaceBuy, PlaceSell, CancelBuy, CancelSell, ExecuteBuy, ExecuteSell, AddCover, TakeCover}
@@ -10,8 +10,7 @@ use Rattle.ledger.specs.Faults.{misfit}
 use Rattle.lines.specs.Fields.{Parts}
 use Rattle.lines.specs.Lines.{kinds, numbers, LineOf, Good, Begins, Misfits, ReadsAs, Answered}
 use Rattle.lines.specs.Reading.{first, Fielded, StuckAt}
-use Rattle.lines.proofs.Digits.{cut_first}
-use Rattle.lines.proofs.Splits.{one_list}
+use Rattle.lines.proofs.Splits.{cut_first, one_list}
 use Rattle.lines.proofs.Stops.{here, behind, not_over, some_fielded}
 
 -- the action of a letter
@@ -31,11 +30,11 @@ acted_letter AddCover = refl
 acted_letter TakeCover = refl
 
 -- no two actions share a letter
-pub same_action : (a b : Action) → letter a ≡ letter b → a ≡ b
+same_action : (a b : Action) → letter a ≡ letter b → a ≡ b
 same_action a b e = let p = acted_letter a in let q = acted_letter b in let r = ap acted e in cc
 
 -- fields of an instruction's kinds are an instruction's
-pub fields_line : (a : Action) (zs : List ℤ) (t : List ℕ) → Parts (kinds a) zs t → Good (letter a ∷ t)
+fields_line : (a : Action) (zs : List ℤ) (t : List ℕ) → Parts (kinds a) zs t → Good (letter a ∷ t)
 fields_line a [] t h = absurd h
 fields_line a (x ∷ []) t h = absurd h.4
 fields_line a (x ∷ y ∷ []) t h = absurd h.4.4
@@ -47,41 +46,32 @@ fields_line a (x ∷ y ∷ z ∷ []) t h =
 fields_line a (x ∷ y ∷ z ∷ w ∷ zs) t h = absurd h.4.4.4
 
 -- an instruction with the letter has the action
-pub line_fields : (a : Action) (t : List ℕ) → Good (letter a ∷ t) → Fielded (kinds a) t
+line_fields : (a : Action) (t : List ℕ) → Good (letter a ∷ t) → Fielded (kinds a) t
 line_fields a t (i, (rest, e, h)) =
     let l : letter a ≡ letter i.action = cc in
     let r : t ≡ rest = cc in
     (numbers i, subst (λ b. Parts (kinds b) (numbers i) t) (sym (same_action a i.action l)) (subst (Parts (kinds i.action) (numbers i)) (sym r) h))
 
 -- stuck in P is stuck in a language with the same texts
-pub same_texts : (P Q : List ℕ → Type 0) → ((t : List ℕ) → P t → Q t) → ((t : List ℕ) → Q t → P t) → (s : List ℕ) (from column : ℕ) → StuckAt P s from column → StuckAt Q s from column
+same_texts : (P Q : List ℕ → Type 0) → ((t : List ℕ) → P t → Q t) → ((t : List ℕ) → Q t → P t) → (s : List ℕ) (from column : ℕ) → StuckAt P s from column → StuckAt Q s from column
 same_texts P Q to back s from column h = record {
   front = h.front;
   back = h.back;
   split = h.split;
   at = h.at;
-  stuck = record { begins = (h.stuck.begins.0, to _ h.stuck.begins.1); blocked = λ u e g. h.stuck.blocked u e (back _ g) };
+  begins = (h.begins.0, to _ h.begins.1);
+  blocked = λ u e g. h.blocked u e (back _ g);
 }
 
 -- a line whose fields are stuck
-pub stuck_line : (a : Action) {s : List ℕ} {column : ℕ} → StuckAt (Fielded (kinds a)) s 1 column → StuckAt Good (letter a ∷ s) 0 column
+stuck_line : (a : Action) {s : List ℕ} {column : ℕ} → StuckAt (Fielded (kinds a)) s 1 column → StuckAt Good (letter a ∷ s) 0 column
 stuck_line a {s} {column} h = behind Good (letter a) s 0 column (same_texts (Fielded (kinds a)) (λ t. Good (letter a ∷ t)) (λ t g. fields_line a g.0 t g.1) (line_fields a) s 1 column h)
 
 -- a line that begins with no letter of an action
-pub no_letter : (s : List ℕ) → ((a : Action) → Some (letter a) ≡ first s → ⊥) → StuckAt Good s 0 0
+pub no_letter : (s : List ℕ) → ((a : Action) → Some (letter a) ≢ first s) → StuckAt Good s 0 0
 no_letter s h =
     let m = some_fielded (kinds Fill) in
     here Good s 0 (70 ∷ m.0, fields_line Fill m.1.0 m.0 m.1.1) (λ u e g. h g.0.action (sym (ap first g.1.1) ∙ e))
-
--- a line begins with a letter
-pub empty_line : (line : List ℕ) → length line ≡ 0 → StuckAt Good line 0 0
-empty_line [] l = no_letter [] (λ a e. let z : ◌≡◌ {A = ℕ} 0 1 = cc in omega arith)
-empty_line (b ∷ line) l = absurd (omega arith)
-
--- which is the letter of an action
-pub other_letter : (line : List ℕ) → ((a : Action) → get_or line 0 0 ≡ letter a → ⊥) → 1 ≤ length line → StuckAt Good line 0 0
-other_letter [] h l = absurd (omega arith)
-other_letter (b ∷ line) h l = no_letter (b ∷ line) (λ a e. h a (let d : b ≡ letter a = cc in d))
 
 -- one byte more than the start before r begins no good line
 further : (line p r : List ℕ) (column : ℕ) → line ≡ p ++ r → column ≡ length p → ((u : List ℕ) → first u ≡ first r → Good (p ++ u) → ⊥) → column < length line → Begins Good (take (column + 1) line) → ⊥
@@ -93,19 +83,19 @@ further line p (b ∷ r) column e l h lt g =
     h (b ∷ g.0) refl (subst Good (ap (λ s. s ++ g.0) t ∙ append_assoc p (b ∷ []) g.0) g.1)
 
 -- the column of a line that is stuck
-pub misfits : (line : List ℕ) (column : ℕ) → StuckAt Good line 0 column → Misfits line column
+misfits : (line : List ℕ) (column : ℕ) → StuckAt Good line 0 column → Misfits line column
 misfits line column h =
     let n : length h.front ≡ column = omega (arith, h.at) in
     let t : take column line ≡ h.front = ap (take column) h.split ∙ take_at h.front h.back column n in
     record {
       within = omega (arith, ap length h.split, length-append h.front h.back);
-      begins = subst (Begins Good) (sym t) h.stuck.begins;
-      longest = further line h.front h.back column h.split (sym n) h.stuck.blocked;
-      bad = λ g. h.stuck.blocked h.back refl (subst Good h.split g);
+      begins = subst (Begins Good) (sym t) h.begins;
+      longest = further line h.front h.back column h.split (sym n) h.blocked;
+      bad = λ g. h.blocked h.back refl (subst Good h.split g);
     }
 
 -- a line is the line of one instruction: its letter has one action, and its fields have one list of numbers
-pub one_line : (line : List ℕ) (i j : Instruction) → LineOf line i → LineOf line j → i ≡ j
+one_line : (line : List ℕ) (i j : Instruction) → LineOf line i → LineOf line j → i ≡ j
 one_line line i j (rest, d, g) (rest', e, h) =
     let l : letter i.action ≡ letter j.action = cc in
     let r : rest' ≡ rest = cc in
@@ -123,29 +113,28 @@ whole line (Ok j) h i g = ap Ok (one_line line j i h g)
 whole line (Err f) h i g = absurd (h.2.bad (i, g))
 
 -- by the line alone
-pub answered : (line : List ℕ) (r : Result Instruction Fault) → ReadsAs line r → Answered line r
+answered : (line : List ℕ) (r : Result Instruction Fault) → ReadsAs line r → Answered line r
 answered line r h = record { reads = h; whole = whole line r h }
 
--- a line by its letter
-pub lettered : (b : ℕ) (line : List ℕ) {r : Result Instruction Fault} → 1 ≤ length line → get_or line 0 0 ≡ b → ReadsAs (b ∷ take (length line - 1) (drop 1 line)) r → Answered line r
-lettered b line {r} l e h = answered line r (subst (λ s. ReadsAs s r) (sym (cut_first b line l e)) h)
-
--- ---- reading an instruction
-
 -- a line refused at a column
-pub refused : (line : List ℕ) {f : Fault} {column : ℕ} → f ≡ misfit column → StuckAt Good line 0 column → ReadsAs line (Err f)
-refused line {f} {column} e h = (column, e, misfits line column h)
+pub refused : (line : List ℕ) (f : Fault) (column : ℕ) → f ≡ misfit column → StuckAt Good line 0 column → Answered line (Err f)
+refused line f column e h = answered line (Err f) (column, e, misfits line column h)
+
+module _ (a : Action) (line : List ℕ) (some : 1 ≤ length line) (is : letter a ≡ get_or line 0 0) where
+  -- what is behind the letter
+  behind_letter : line ≡ letter a ∷ take (length line - 1) (drop 1 line)
+  behind_letter = cut_first (letter a) line some (sym is)
+
+  -- a line whose fields are stuck
+  pub refused_behind : (f : Fault) (column : ℕ) → f ≡ misfit column → StuckAt (Fielded (kinds a)) (take (length line - 1) (drop 1 line)) 1 column → Answered line (Err f)
+  refused_behind f column e h = refused line f column e (subst (λ s. StuckAt Good s 0 column) (sym behind_letter) (stuck_line a h))
+
+  -- a line with its fields and nothing else
+  pub instructed : (i : Instruction) (zs : List ℤ) → i.action ≡ a → numbers i ≡ zs → Parts (kinds a) zs (take (length line - 1) (drop 1 line)) → Answered line (Ok i)
+  instructed i zs e n h = answered line (Ok i)
+      (take (length line - 1) (drop 1 line), behind_letter ∙ ap (λ b. letter b ∷ take (length line - 1) (drop 1 line)) (sym e), subst (λ b. Parts (kinds b) (numbers i) (take (length line - 1) (drop 1 line))) (sym e) (subst (λ v. Parts (kinds a) v (take (length line - 1) (drop 1 line))) (sym n) h))
 
 -- what is left behind the last field
 pub left_over : (s : List ℕ) (from : ℕ) → 1 ≤ length s → StuckAt (Fielded []) s from from
 left_over [] from l = absurd (omega arith)
 left_over (b ∷ s) from l = not_over b s from
-
--- a text of no bytes
-pub nothing_left : (s : List ℕ) → length s ≡ 0 → s ≡ []
-nothing_left [] e = refl
-nothing_left (b ∷ s) e = absurd (omega arith)
-
--- the fields of an instruction and nothing else
-pub instructed : (i : Instruction) (s : List ℕ) (zs : List ℤ) → numbers i ≡ zs → Parts (kinds i.action) zs s → LineOf (letter i.action ∷ s) i
-instructed i s zs e h = (s, refl, subst (λ v. Parts (kinds i.action) v s) (sym e) h)

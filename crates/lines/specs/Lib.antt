@@ -2,4 +2,3 @@ pub mod Fields
 pub mod Lines
 pub mod Reading
 pub mod Output
-pub mod Writing

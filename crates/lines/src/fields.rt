@@ -1,23 +1,15 @@
-// The fields of a line: a space and a number.
-ghost use Rattle.std.specs.Prelude.{◌≡◌, ◌+◌, ◌^◌, ◌<◌, ◌≤◌, min, true, length, pos};
-ghost use Rattle.std.specs.List.{prefix_len, AllByRecursion};
+// The fields of a line, one after another: a space and a number each.
+ghost use Rattle.std.specs.Prelude.{◌≡◌, ◌+◌, ◌^◌, ◌<◌, take, length, take_while};
 ghost use Rattle.std.specs.Char.{is_ascii_digit};
-ghost use Rattle.lines.specs.Fields.{value};
-ghost use Rattle.lines.specs.Reading.{Spans, DigitsRead, NumberRead, FieldRead};
 
-// What a field takes: a number without a sign, or one that may have a minus sign.
+use std::str;
+
+// What a field takes: a number without a sign, or one that may have a minus sign. Kinds and not closures that read, since
+// the definition of a line lists the kinds of its fields.
 #[derive(Clone, Copy)]
 pub(crate) enum Kind {
     Plain,
     Signed,
-}
-
-// The number, if there is one, and the part of the line that is left, with its column.
-#[derive(Clone, Copy)]
-pub(crate) struct Field<'a> {
-    pub number: Option<i64>,
-    pub column: usize,
-    pub rest: &'a [u8],
 }
 
 // A number has at most so many digits.
@@ -25,102 +17,71 @@ const MOST_DIGITS: usize = 18;
 
 // How many digits s begins with, counted up to the most that a number has.
 fn count_digits(s: &[u8]) -> usize
-    ensures { result ≡ min 18 (prefix_len is_ascii_digit s.now) }
+    ensures { result ≡ length (take 18 (take_while is_ascii_digit s.now)) }
 {
-    let mut n = 0;
-    for b in s {
-        if n == MOST_DIGITS || !b.is_ascii_digit() {
-            return n;
+    s.iter()
+        .take_while(|b| b.is_ascii_digit())
+        .take(MOST_DIGITS)
+        .count()
+}
+
+// The part of a line that is left to read, and the column where it begins.
+#[derive(Drop)]
+pub(crate) struct Reader<'a> {
+    pub rest: &'a [u8],
+    pub column: usize,
+    ghost fits: { column + length rest.now < 2 ^ 64 },
+}
+
+impl<'a> Reader<'a> {
+    ghost use Rattle.std.specs.Prelude.{◌≡◌};
+    ghost use Rattle.lines.specs.Reading.{Spans, DigitsRead, NumberRead, FieldRead};
+
+    // How many bytes the next number takes: a 0 stands alone.
+    fn number_length(&self) -> usize
+        ensures { Spans self.now.rest.now result }
+    {
+        match self.rest {
+            [b'0', ..] => 1,
+            _ => count_digits(self.rest),
         }
-        n += 1;
     }
-    n
-}
 
-// How many bytes of s are its number: a 0 stands alone.
-fn number_length(s: &[u8]) -> usize
-    ensures { Spans s.now result }
-{
-    match s {
-        [b'0', ..] => 1,
-        _ => count_digits(s),
+    // The digits that come next.
+    fn digits(&mut self) -> Option<i64>
+        ensures { DigitsRead self.old.rest.now self.old.column result self.new.column self.new.rest.now }
+    {
+        let (digits, rest) = self.rest.split_at(self.number_length());
+        self.rest = rest;
+        self.column += digits.len();
+        str::from_utf8(digits).unwrap().parse().ok()
     }
-}
 
-// The number that at most 18 digits stand for.
-fn decimal(s: &[u8]) -> i64
-    requires few { length s.now ≤ 18 }
-    requires digits { AllByRecursion (λ b. is_ascii_digit b ≡ true) s.now }
-    ensures { result ≡ pos (value s.now) }
-{
-    let mut n = 0u64;
-    for b in s {
-        n = n * 10 + u64::from(*b - b'0');
-    }
-    n as i64
-}
-
-// The digits that s begins with.
-fn read_digits(s: &[u8], column: usize) -> Field<'_>
-    requires { column + length s.now < 2 ^ 64 }
-    ensures reads { DigitsRead s.now column result.number result.column result.rest.now }
-    ensures within { result.column + length result.rest.now ≡ column + length s.now }
-{
-    let n = number_length(s);
-    if n == 0 {
-        return Field {
-            number: None,
-            column,
-            rest: s,
+    // The number that comes next. A minus sign stands only before a number above 0.
+    fn number(&mut self, kind: Kind) -> Option<i64>
+        ensures { NumberRead kind self.old.rest.now self.old.column result self.new.column self.new.rest.now }
+    {
+        let (Kind::Signed, [b'-', rest @ ..]) = (kind, self.rest) else {
+            return self.digits();
         };
+        self.rest = rest;
+        self.column += 1;
+        if let [b'0', ..] = rest {
+            return None;
+        }
+        let n = self.digits()?;
+        Some(-n)
     }
-    let (front, rest) = s.split_at(n);
-    Field {
-        number: Some(decimal(front)),
-        column: column + n,
-        rest,
-    }
-}
 
-// The number that s begins with.
-fn read_number(kind: Kind, s: &[u8], column: usize) -> Field<'_>
-    requires { column + length s.now < 2 ^ 64 }
-    ensures reads { NumberRead kind s.now column result.number result.column result.rest.now }
-    ensures within { result.column + length result.rest.now ≡ column + length s.now }
-{
-    let Kind::Signed = kind else {
-        return read_digits(s, column);
-    };
-    let [b'-', rest @ ..] = s else {
-        return read_digits(s, column);
-    };
-    let digits = read_digits(rest, column + 1);
-    match digits.number {
-        Some(n) if n > 0 => Field {
-            number: Some(-n),
-            column: digits.column,
-            rest: digits.rest,
-        },
-        _ => Field {
-            number: None,
-            column: column + 1,
-            rest,
-        },
-    }
-}
-
-// One space and a number.
-pub(crate) fn read_field(kind: Kind, s: &[u8], column: usize) -> Field<'_>
-    requires { column + length s.now < 2 ^ 64 }
-    ensures reads { FieldRead kind s.now column result.number result.column result.rest.now }
-    ensures within { result.column + length result.rest.now ≡ column + length s.now }
-{
-    let [b' ', rest @ ..] = s else {
-        return Field {
-            number: None,
-            column,
-            rest: s,
+    // One space and a number. Where there is none, the reader stands where the line stops being one with such a field.
+    pub fn field(&mut self, kind: Kind) -> Option<i64>
+        ensures { FieldRead kind self.old.rest.now self.old.column result self.new.column self.new.rest.now }
+    {
+        let [b' ', rest @ ..] = self.rest else {
+            return None;
         };
-    };
-    read_number(kind, rest, column + 1)
+        self.rest = rest;
+        self.column += 1;
+        self.number(kind)
+    }
 }

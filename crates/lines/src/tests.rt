@@ -6,96 +6,33 @@ use ledger::books::Holding;
 use ledger::cells::{Instruction, Quote};
 use ledger::faults::{Fault, Reason};
 
-// A line that is refused, and its column.
-#[derive(Clone, Copy)]
-struct Row {
-    line: &'static [u8],
-    column: usize,
-}
-
-const COLUMNS: [Row; 19] = [
-    Row {
-        line: b"",
-        column: 0,
-    },
-    Row {
-        line: b" O",
-        column: 0,
-    },
-    Row {
-        line: b"f 0 0 1",
-        column: 0,
-    },
-    Row {
-        line: b"F",
-        column: 1,
-    },
-    Row {
-        line: b"F ",
-        column: 2,
-    },
-    Row {
-        line: b"F 01 0 1",
-        column: 3,
-    },
-    Row {
-        line: b"F 0 0 -",
-        column: 7,
-    },
-    Row {
-        line: b"F 0 0 -0",
-        column: 7,
-    },
-    Row {
-        line: b"F 0 0 -01",
-        column: 7,
-    },
-    Row {
-        line: b"F 0 0 +1",
-        column: 6,
-    },
-    Row {
-        line: b"B 0 0 -5",
-        column: 6,
-    },
-    Row {
-        line: b"F -1 0 5",
-        column: 2,
-    },
-    Row {
-        line: b"F 0 0 5 ",
-        column: 7,
-    },
-    Row {
-        line: b"F1 0 0",
-        column: 1,
-    },
-    Row {
-        line: b"F  1 0 0",
-        column: 2,
-    },
-    Row {
-        line: b"F 1234567890123456789 0 0",
-        column: 20,
-    },
-    Row {
-        line: b"F 0 0 5\r",
-        column: 7,
-    },
-    Row {
-        line: b"F 0\t0 5",
-        column: 3,
-    },
-    Row {
-        line: b"F 0 \xc3\xa4 5",
-        column: 4,
-    },
+// Lines that are refused, and their columns.
+const COLUMNS: [(&[u8], usize); 19] = [
+    (b"", 0),
+    (b" O", 0),
+    (b"f 0 0 1", 0),
+    (b"F", 1),
+    (b"F ", 2),
+    (b"F 01 0 1", 3),
+    (b"F 0 0 -", 7),
+    (b"F 0 0 -0", 7),
+    (b"F 0 0 -01", 7),
+    (b"F 0 0 +1", 6),
+    (b"B 0 0 -5", 6),
+    (b"F -1 0 5", 2),
+    (b"F 0 0 5 ", 7),
+    (b"F1 0 0", 1),
+    (b"F  1 0 0", 2),
+    (b"F 1234567890123456789 0 0", 20),
+    (b"F 0 0 5\r", 7),
+    (b"F 0\t0 5", 3),
+    (b"F 0 \xc3\xa4 5", 4),
 ];
 
 #[test]
 fn refused(rt: HostRuntime) {
-    for row in COLUMNS.iter() {
-        assert_eq!(rt; read_line(row.line), Err(Fault::misfit(row.column)));
+    for (line, column) in COLUMNS {
+        assert_eq!(rt; read_line(line), Err(Fault::misfit(column)));
     }
 }
 

@@ -2,7 +2,7 @@
 use Rattle.std.specs.Prelude.{◌≡◌, ℕ, Bool, ◌&&◌, ℤ, pos, negsuc, ◌+ℤ◌, ◌-ℤ◌, neg_ℤ, ◌≤ℤ◌, Some, None, Ok, Option, int_le}
 use Rattle.std.specs.Int.{int_max, int_min}
 use Rattle.ledger.specs.declared.actions.Action.{Action}
-use Rattle.ledger.specs.declared.actions.Action.TheVariants.{Fill, PlaceBuy, PlaceSell, CancelBuy, CancelSell, ExecuteBuy, ExecuteSell, AddCover, TakeCover}
+use Rattle.ledger.specs.declared.actions.Action.TheVariants.{PlaceBuy, PlaceSell, CancelBuy, CancelSell, ExecuteBuy, ExecuteSell}
 use Rattle.ledger.specs.declared.faults.Reason.TheVariants.{Rest, Reach}
 use Rattle.ledger.specs.declared.cells.Cell.{Cell}
 use Rattle.ledger.specs.declared.cells.Quote.{Quote}
@@ -12,11 +12,15 @@ use Rattle.ledger.specs.Checks.{Answer, checked, unless, ◌then◌}
 use Rattle.ledger.specs.Meanings.{Meaning}
 use Rattle.ledger.specs.Layers.{asked, as_fill}
 use Rattle.tables.specs.declared.Table.{Table}
-use Rattle.tables.specs.Tables.{at, rows_of, AllZero}
+use Rattle.tables.specs.Bounded.{UpTo, Bounded}
+use Rattle.tables.specs.Tables.{at, AllZero}
+
+abbrev pub most_rest : ℤ
+most_rest = pos 2000000000
 
 -- what may rest in one cell
 abbrev pub RestIn : ℤ → Type 0
-RestIn z = (pos 0 ≤ℤ z) × (z ≤ℤ pos 2000000000)
+RestIn = UpTo most_rest
 
 -- what may come of it in one step
 abbrev pub Near : ℤ → Type 0
@@ -24,7 +28,7 @@ Near z = (negsuc 2999999999 ≤ℤ z) × (z ≤ℤ pos 3000000000)
 
 -- a table of what rests, with a row for each account
 abbrev pub Resting : Table → Type 0
-Resting t = (rows_of t ≡ 64) × ((a s : ℕ) → RestIn (at t a s))
+Resting = Bounded most_rest
 
 -- the low below less the resting sells, and the high below plus the resting buys; neither is let out of reach
 abbrev pub low_of : ℤ → ℤ → ℤ
@@ -44,15 +48,13 @@ pub record Plain (below layer : Meaning) : Type 0 where
 
 -- what is sent down: an execution is a fill below, orders placed and cancelled stay here, all else is passed on
 abbrev pub order_sent : Action → Instruction → Option Instruction
-order_sent Fill i = Some i
 order_sent PlaceBuy i = None
 order_sent PlaceSell i = None
 order_sent CancelBuy i = None
 order_sent CancelSell i = None
 order_sent ExecuteBuy i = Some (as_fill i i.amount)
 order_sent ExecuteSell i = Some (as_fill i (neg_ℤ i.amount))
-order_sent AddCover i = Some i
-order_sent TakeCover i = Some i
+order_sent _ i = Some i
 
 -- no less than 0 would rest: the instruction asks for no more than rests
 abbrev pub enough : ℤ → ℤ → Bool

@@ -1,12 +1,12 @@
 // How the order layer carries instructions.
 ghost use Rattle.std.specs.Prelude.{◌≡◌, ℤ, ◌+ℤ◌, OnOk};
 ghost use Rattle.ledger.specs.Actions.{step, Within};
-ghost use Rattle.ledger.specs.Cells.{Ranged};
+ghost use Rattle.ledger.specs.Cells.{Ranged, standing};
 ghost use Rattle.ledger.specs.Layers.{Passed};
 ghost use Rattle.ledger.specs.Meanings.{Instructed};
 ghost use Rattle.tables.specs.Tables.{at};
 ghost use Rattle.orders.specs.Keeping.{layer_meaning, LayerKeeps};
-ghost use Rattle.orders.specs.Resting.{order_sent, buys_after, sells_after, enough, widened, in_reach, RestIn, Near};
+ghost use Rattle.orders.specs.Resting.{order_cell, order_sent, buys_after, sells_after, enough, widened, in_reach, RestIn, Near};
 ghost use Rattle.orders.specs.OrderFacts.{order_lawful};
 
 use crate::OrderLayer;
@@ -17,87 +17,65 @@ use ledger::faults::{Fault, Reason};
 use ledger::layering::{ask_below, read_below, send_below};
 use ledger::ledgers::Ledger;
 
-// What rests above one cell.
+// What rests above one cell, or would: less than 0 where more is asked for than rests.
 #[derive(Clone, Copy)]
 struct Rests {
     buys: i64,
     sells: i64,
+    ghost near: { (Near buys) × (Near sells) },
 }
 
 impl Rests {
-    // What would rest after the instruction: less than 0 where it asks for more than rests.
-    fn after(self, i: Instruction) -> Rests
-        requires { (Within i.amount) × ((RestIn self.buys) × (RestIn self.sells)) }
-        ensures buys { result.buys ≡ self.buys +ℤ (step i.action i.amount).buys }
-        ensures sells { result.sells ≡ self.sells +ℤ (step i.action i.amount).sells }
-    {
-        let Rests { buys, sells } = self;
-        match i.action {
-            Action::PlaceBuy => Rests {
-                buys: buys + i.amount,
-                sells,
-            },
-            Action::PlaceSell => Rests {
-                buys,
-                sells: sells + i.amount,
-            },
-            Action::CancelBuy | Action::ExecuteBuy => Rests {
-                buys: buys - i.amount,
-                sells,
-            },
-            Action::CancelSell | Action::ExecuteSell => Rests {
-                buys,
-                sells: sells - i.amount,
-            },
-            _ => self,
-        }
-    }
-
     fn is_enough(self) -> bool
         ensures { result ≡ enough self.buys self.sells }
     {
         self.buys >= 0 && self.sells >= 0
     }
+
+    // The quote below with this resting above it.
+    fn widen(self, q: Quote) -> Quote
+        requires { Ranged q }
+        ensures { result ≡ widened q self.buys self.sells }
+    {
+        let low = q.low - self.sells;
+        let high = q.high + self.buys;
+        Quote { low, high, ..q }
+    }
+
+    // The cell below with this resting above it: its range is not let out of reach.
+    fn above(self, below: Cell) -> Cell
+        requires { Ranged (standing below) }
+        ensures { result ≡ order_cell below self.buys self.sells }
+    {
+        let wide = self.widen(Quote::from(below));
+        Cell {
+            low: wide.low.max(-REACH),
+            high: wide.high.min(REACH),
+            buys: self.buys,
+            sells: self.sells,
+            ..below
+        }
+    }
 }
 
-// What is sent to the ledger below, if anything is.
+// What is sent to the ledger below, if anything is. That the amount is checked stays a clause here and below: a type of
+// checked instructions would be a second one beside the public `Instruction`.
 fn sent(i: Instruction) -> Option<Instruction>
     requires { Within i.amount }
     ensures { result ≡ order_sent i.action i }
 {
-    let Instruction {
-        action,
-        account,
-        series,
-        amount,
-    } = i;
-    match action {
+    match i.action {
         Action::PlaceBuy | Action::PlaceSell | Action::CancelBuy | Action::CancelSell => None,
         Action::ExecuteBuy => Some(Instruction {
             action: Action::Fill,
-            account,
-            series,
-            amount,
+            ..i
         }),
         Action::ExecuteSell => Some(Instruction {
             action: Action::Fill,
-            account,
-            series,
-            amount: -amount,
+            amount: -i.amount,
+            ..i
         }),
         _ => Some(i),
-    }
-}
-
-// The quote below with what rests above it.
-fn widened(q: Quote, rests: Rests) -> Quote
-    requires { (Ranged q) × ((Near rests.buys) × (Near rests.sells)) }
-    ensures { result ≡ widened q rests.buys rests.sells }
-{
-    Quote {
-        held: q.held,
-        low: q.low - rests.sells,
-        high: q.high + rests.buys,
     }
 }
 
@@ -121,13 +99,21 @@ impl<L: Ledger> OrderLayer<L> {
         }
     }
 
+    // What would rest after the instruction.
     fn rests_after(&self, i: Instruction) -> Rests
         requires { Within i.amount }
         ensures buys { result.buys ≡ buys_after self.now.buys i }
         ensures sells { result.sells ≡ sells_after self.now.sells i }
-        ensures near { (Near result.buys) × (Near result.sells) }
     {
-        self.rests(i.account, i.series).after(i)
+        let mut rests = self.rests(i.account, i.series);
+        match i.action {
+            Action::PlaceBuy => rests.buys += i.amount,
+            Action::PlaceSell => rests.sells += i.amount,
+            Action::CancelBuy | Action::ExecuteBuy => rests.buys -= i.amount,
+            Action::CancelSell | Action::ExecuteSell => rests.sells -= i.amount,
+            _ => (),
+        }
+        rests
     }
 }
 
@@ -151,23 +137,8 @@ impl<L: Ledger> Ledger for OrderLayer<L> {
     }
 
     fn cell(&self, account: usize, series: usize) -> Cell {
-        let below = read_below(&self.below, account, series);
-        let rests = self.rests(account, series);
-        let wide = widened(
-            Quote {
-                held: below.held,
-                low: below.low,
-                high: below.high,
-            },
-            rests,
-        );
-        Cell {
-            low: wide.low.max(-REACH),
-            high: wide.high.min(REACH),
-            buys: rests.buys,
-            sells: rests.sells,
-            ..below
-        }
+        self.rests(account, series)
+            .above(read_below(&self.below, account, series))
     }
 
     fn quote(&self, i: Instruction) -> Result<Quote, Fault> {
@@ -177,7 +148,7 @@ impl<L: Ledger> Ledger for OrderLayer<L> {
             return Err(Fault::found(Reason::Rest));
         }
         let below = ask_below(&self.below, i.account, i.series, sent(i))?;
-        in_reach(widened(below, rests))
+        in_reach(rests.widen(below))
     }
 
     // Obeyed, the ledger below has carried out what was sent down, and nothing else has happened to it.

@@ -12,6 +12,10 @@ use tables::Table;
 pub mod carrying;
 
 // What rests above each cell of the ledger below.
+// Not one type with the cover layer: their rules differ, and what is the same is five short functions; a trait of the rules,
+// with its laws, would be longer.
+// Buys and sells are two tables, each of plain numbers as a book's counts and the cover are: one table of pairs would be
+// a second kind of table.
 #[derive(Drop)]
 pub struct OrderLayer<L: Ledger> {
     below: L,

@@ -1,3 +1,3 @@
-pub mod Rows
+pub mod Levels
 pub mod Enrolling
 pub mod Records

@@ -1,101 +1,82 @@
--- The records of limits, and one limit set. Assumes nothing.
-use Rattle.std.proofs.Common.{◌≡◌, ℕ, ◌+◌, ◌*◌, ◌<◌, Bool, true, false, cond, ◌&&◌, eqb, ltb, ◌≢◌, List, length, set, replicate, ℤ, Some, None, Ok, sym, refl, ap, ◌∙◌, inl, inr, ⊎_elim, arith, get_or-set_other, get_or-set_same}
-use Rattle.std.proofs.lemmas.Bool.{cases_Bool, and_left, and_right, cond-true, cond-false, eq-eqb, ne_eqb, lt-ltb, ltb-true, ltb-false}
-use Rattle.std.proofs.lemmas.Bool.Decides.{eqb_tells}
+-- The records of limits, with one written. Assumes nothing.
+use Rattle.std.proofs.Common.{◌≡◌, ℕ, zero, suc, ◌<◌, Bool, true, false, cond, ◌&&◌, eqb, ltb, List, [], ◌∷◌, length, refl, get_or, set, replicate, ℤ, Some, None, Option, ap, ◌∙◌, arith, length-set}
+use Rattle.std.proofs.lemmas.Grind.{common_steps}
+use Rattle.std.proofs.lemmas.Bool.Decides.{nat_tests}
 use Rattle.expiry.specs.declared.side.Side.{Side}
 use Rattle.expiry.specs.declared.side.Side.TheVariants.{Long, Short}
-use Rattle.expiry.specs.Sides.{side_number}
+use Rattle.expiry.specs.Sides.{side_number, on_side, with_side}
 use Rattle.parties.specs.declared.level.Level.{Level}
-use Rattle.parties.specs.declared.level.Level.TheVariants.{Account, Holder, Group, Participant}
-use Rattle.parties.specs.declared.record.LimitRecord.{LimitRecord}
 use Rattle.parties.specs.Levels.{level_number}
-use Rattle.parties.specs.Tables.{no_record, record_at, limiting, proper, AllProper}
-use Rattle.parties.specs.Limits.{none_set, side_of, place, limits_in, with_limit, settable}
-use Rattle.parties.proofs.Rows.{all_same}
+use Rattle.parties.specs.Tables.{LimitRecord, no_record, record_at, limiting, proper, IsWhole, AllProper}
+use Rattle.parties.proofs.Levels.{level_below}
+use Rattle.parties.specs.Limits.{none_set, limits_in, with_limit}
 
--- a missing limit is proper
-pub none_proper : AllProper (replicate 256 no_record)
-none_proper k = let e = all_same 256 k no_record in (ap (λ (r : LimitRecord). proper r.long) e, ap (λ (r : LimitRecord). proper r.short) e)
+-- one element of a table written
+pub at-set : {A : Type 0} (xs : List (List A)) (d : A) (n p : ℕ) (x : A) → n < length xs → p < length (get_or xs n []) → (m q : ℕ) → get_or (get_or (set xs n (set (get_or xs n []) p x)) m []) q d ≡ cond (eqb m n && eqb q p) x (get_or (get_or xs m []) q d)
+at-set xs d n p x l k m q = grind (arith, common_steps, nat_tests)
 
--- a proper record is written
-pub proper_set : (rs : List LimitRecord) (n : ℕ) (r : LimitRecord) → AllProper rs → n < length rs → (proper r.long ≡ true) × (proper r.short ≡ true) → AllProper (set rs n r)
-proper_set rs n r all room new k = elim (eqb_tells k n) [
-  | inl t ↦ let e = ap (λ z. record_at (set rs n r) z) t.1 ∙ get_or-set_same rs n r no_record room in (ap (λ (z : LimitRecord). proper z.long) e ∙ new.0, ap (λ (z : LimitRecord). proper z.short) e ∙ new.1)
-  | inr t ↦ let e = get_or-set_other rs n k r no_record t.1 in (ap (λ (z : LimitRecord). proper z.long) e ∙ (all k).0, ap (λ (z : LimitRecord). proper z.short) e ∙ (all k).1)
-]
+-- a row replaced by another of its length
+lengths-set : {A : Type 0} (xs : List (List A)) (n : ℕ) (ys : List A) → length ys ≡ length (get_or xs n []) → (m : ℕ) → length (get_or (set xs n ys) m []) ≡ length (get_or xs m [])
+lengths-set [] n ys e m = refl
+lengths-set (x ∷ xs) zero ys e zero = e
+lengths-set (x ∷ xs) zero ys e (suc m) = refl
+lengths-set (x ∷ xs) (suc n) ys e zero = refl
+lengths-set (x ∷ xs) (suc n) ys e (suc m) = lengths-set xs n ys e m
 
--- every limit of such records is missing
-pub none_limits : limits_in (replicate 256 no_record) ≡ none_set
-none_limits i l q d = (ap (λ r. cond (ltb q 64) (side_of d r) None) (all_same 256 (place l q) no_record) ∙ nothing d (ltb q 64)) i
+-- a side changed, read on a side
+side_set : (r : LimitRecord) (side d : Side) (x : Option ℤ) → on_side (with_side r side x) d ≡ cond (eqb (side_number d) (side_number side)) x (on_side r d)
+side_set r Long Long x = refl
+side_set r Long Short x = refl
+side_set r Short Long x = refl
+side_set r Short Short x = refl
+
+-- one limit set: of the party p, where n is the number of its level and ys its level's new row
+module _ (rs : List (List LimitRecord)) (whole : IsWhole rs) (level : Level) (n p : ℕ) (at : n ≡ level_number level) (few : p < 64) (side : Side) (m : ℤ) (ys : List LimitRecord)
+    (row : ys ≡ set (get_or rs n []) p (with_side (record_at rs n p) side (Some m))) where
+  low : n < 4
+  low = omega (arith, level_below level)
+
+  written_at : (k q : ℕ) → record_at (set rs n ys) k q ≡ cond (eqb k n && eqb q p) (with_side (record_at rs n p) side (Some m)) (record_at rs k q)
+  written_at k q = ap (λ zs. record_at (set rs n zs) k q) row ∙ at-set rs no_record n p _ (omega (arith, whole.0, low)) (omega (arith, whole.1 n low)) k q
+
+  pub whole_set : IsWhole (set rs n ys)
+  whole_set = (length-set _ _ _ ∙ whole.0, λ k l. lengths-set rs n ys (ap length row ∙ length-set _ _ _) k ∙ whole.1 k l)
+
+  pub proper_set : AllProper rs → limiting m ≡ true → AllProper (set rs n ys)
+  proper_set all ranged k q d = grind (arith, nat_tests, written_at k q, all k q d, all n p d, side_set (record_at rs n p) side d (Some m))
+
+  pub limits_set : limits_in (set rs n ys) ≡ with_limit (limits_in rs) (level_number level) p (side_number side) m
+  limits_set = λ i l q d. limit_at l q d i
+    where
+      limit_at : (l : Level) (q : ℕ) (d : Side) → limits_in (set rs n ys) l q d ≡ with_limit (limits_in rs) (level_number level) p (side_number side) m l q d
+      limit_at l q d = grind (arith, nat_tests, written_at (level_number l) q, side_set (record_at rs n p) side d (Some m))
+
+-- rows of one element, read anywhere
+copies : {A : Type 0} (x : A) (k n a b : ℕ) → get_or (get_or (replicate k (replicate n x)) a []) b x ≡ x
+copies x zero n a b = refl
+copies x (suc k) zero zero b = refl
+copies x (suc k) (suc n) zero zero = refl
+copies x (suc k) (suc n) zero (suc b) = copies x (suc k) n zero b
+copies x (suc k) n (suc a) b = copies x k n a b
+
+-- a table with no limit
+abbrev no_limits : List (List LimitRecord)
+no_limits = replicate 4 (replicate 64 no_record)
+
+pub none_whole : IsWhole no_limits
+none_whole = (refl, λ n l. grind (arith, common_steps))
+
+pub none_proper : AllProper no_limits
+none_proper n p d = ap (λ (r : LimitRecord). proper (on_side r d)) (copies no_record 4 64 n p) ∙ nothing d
   where
-    nothing : (d : Side) (b : Bool) → cond b (side_of d no_record) None ≡ None
+    nothing : (d : Side) → proper (on_side no_record d) ≡ true
+    nothing Long = refl
+    nothing Short = refl
+
+pub none_limits : limits_in no_limits ≡ none_set
+none_limits = λ i l q d. (ap (λ r. cond (ltb q 64) (on_side r d) None) (copies no_record 4 64 (level_number l) q) ∙ nothing d (ltb q 64)) i
+  where
+    nothing : (d : Side) (b : Bool) → cond b (on_side no_record d) None ≡ None
     nothing Long true = refl
     nothing Short true = refl
     nothing d false = refl
-
--- a record with the limit m on one side
-abbrev pub with_side : Side → LimitRecord → ℤ → LimitRecord
-with_side Long r m = record { long = Some m; short = r.short }
-with_side Short r m = record { long = r.long; short = Some m }
-
--- what is read of it
-side_set : (d side : Side) (r : LimitRecord) (m : ℤ) → side_of d (with_side side r m) ≡ cond (eqb (side_number d) (side_number side)) (Some m) (side_of d r)
-side_set Long Long r m = refl
-side_set Long Short r m = refl
-side_set Short Long r m = refl
-side_set Short Short r m = refl
-
--- there are four levels
-pub level_below : (l : Level) → level_number l < 4
-level_below Account = omega arith
-level_below Holder = omega arith
-level_below Group = omega arith
-level_below Participant = omega arith
-
-module _ (rs : List LimitRecord) (whole : length rs ≡ 256) (level : Level) (p : ℕ) (few : p < 64) (side : Side) (m : ℤ) where
-  -- the table with the one limit written
-  abbrev written : List LimitRecord
-  written = set rs (place level p) (with_side side (record_at rs (place level p)) m)
-
-  -- whether a limit is the one that is written
-  abbrev is_it : Level → ℕ → Side → Bool
-  is_it l q d = eqb (level_number l) (level_number level) && (eqb q p && eqb (side_number d) (side_number side))
-
-  -- another party has another place
-  other : (l : Level) (q : ℕ) (d : Side) → (place l q ≡ place level p → ⊥) → is_it l q d ≡ false
-  other l q d apart = elim (eqb_tells (level_number l) (level_number level)) [
-    | inl s ↦ and_right _ _ (and_left _ _ (ne_eqb _ _ (λ w. apart (λ i. 64 * s.1 i + w i))))
-    | inr s ↦ and_left _ _ s.0
-  ]
-
-  -- what is read at a place
-  read_at : (l : Level) (q : ℕ) (d : Side) → q < 64 → side_of d (record_at written (place l q)) ≡ cond (is_it l q d) (Some m) (side_of d (record_at rs (place l q)))
-  read_at l q d h = elim (eqb_tells (place l q) (place level p)) [
-    | inl t ↦
-        let e = t.1 in
-        let same_level : level_number l ≡ level_number level = omega arith in
-        let same_party : q ≡ p = omega arith in
-        let room : place level p < length rs = omega (arith, level_below level) in
-        ap (side_of d) (ap (λ k. record_at written k) e ∙ get_or-set_same rs (place level p) _ no_record room) ∙ side_set d side (record_at rs (place level p)) m
-        ∙ (λ i. cond (sym (eq-eqb _ _ same_level) i && (sym (eq-eqb _ _ same_party) i && eqb (side_number d) (side_number side))) (Some m) (side_of d (record_at rs (sym e i))))
-    | inr t ↦ ap (side_of d) (get_or-set_other rs (place level p) (place l q) _ no_record t.1) ∙ sym (cond-false _ _ _ (other l q d t.1))
-  ]
-
-  -- and of a party above 63
-  limit_at : (l : Level) (q : ℕ) (d : Side) → limits_in written l q d ≡ cond (is_it l q d) (Some m) (limits_in rs l q d)
-  limit_at l q d = ⊎_elim
-      (λ h. cond-true _ _ _ h ∙ read_at l q d (ltb-true _ _ h) ∙ ap (cond (is_it l q d) (Some m)) (sym (cond-true _ _ _ h)))
-      (λ h.
-      let out = ltb-false q 64 h in
-      let apart : q ≢ p = omega arith in
-      cond-false _ _ _ h ∙ sym (cond-false _ _ _ (and_right _ _ (and_left _ _ (ne_eqb _ _ apart))) ∙ cond-false _ _ _ h))
-      (cases_Bool (ltb q 64))
-
-  -- one limit is written: z, on the side s of the record k
-  pub limits_set : (k : ℕ) (s : Side) (z : ℤ) → k ≡ place level p → side ≡ s → z ≡ m
-      → limits_in (set rs k (with_side s (record_at rs k) z)) ≡ with_limit (limits_in rs) (level_number level) p (side_number side) m
-  limits_set k s z at on by = (λ i. limits_in (set rs (at i) (with_side (sym on i) (record_at rs (at i)) (by i)))) ∙ (λ i l q d. limit_at l q d i)
-
--- nothing stands against the limit
-pub settable_ok : (p : ℕ) (m : ℤ) → p < 64 → limiting m ≡ true → settable p m ≡ Ok tt
-settable_ok p m few ranged = cond-true _ _ _ (lt-ltb _ _ few) ∙ cond-true _ _ _ ranged

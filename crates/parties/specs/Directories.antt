@@ -1,24 +1,32 @@
 -- Accounts, and the parties that they belong to. Assumes nothing.
-use Rattle.std.specs.Prelude.{◌≡◌, ℕ, ◌<◌, ◌≤◌, Bool, false, not, ◌&&◌, ◌||◌, List, [], ◌∷◌, ◌++◌, length, take, Some, None, Ok, Err, Option, Result, ◌==◌, nat_lt}
+use Rattle.std.specs.Prelude.{◌≡◌, ℕ, ◌<◌, ◌≤◌, Bool, not, ◌&&◌, List, [], ◌∷◌, ◌++◌, length, Some, None, Ok, Err, Option, Result, ◌==◌, nat_lt}
+use Rattle.std.specs.List.{list_any}
 use Rattle.ledger.specs.Checks.{unless}
 use Rattle.ledger.specs.declared.faults.Fault.{Fault}
 use Rattle.ledger.specs.declared.faults.Reason.TheVariants.{DirectoryFull, Unknown, GroupClash}
 use Rattle.parties.specs.declared.entry.Entry.{Entry}
+use Rattle.parties.specs.declared.path.Path.{Path}
 use Rattle.parties.specs.declared.level.Level.{Level}
-use Rattle.parties.specs.declared.level.Level.TheVariants.{Account, Holder, Group, Participant}
 use Rattle.parties.specs.declared.Directory.{Directory}
+use Rattle.parties.specs.Paths.{party_on}
 use Rattle.parties.specs.Tables.{entry_at}
 
 -- what a directory means: the list of its accounts
 abbrev pub entries_of : Directory → List Entry
-entries_of d = take d.count d.entries
+entries_of d = d.entries.items
+
+-- the path of account a
+abbrev pub path_of : List Entry → ℕ → Path
+path_of es a = record { account = a; entry = entry_at es a }
+
+-- that of an added account; none for another
+abbrev pub PathAt : List Entry → ℕ → Option Path → Type 0
+PathAt es a (Some p) = (a < length es) × (p ≡ path_of es a)
+PathAt es a None = length es ≤ a
 
 -- the party of account a at a level
 abbrev pub party : List Entry → Level → ℕ → ℕ
-party es Account a = a
-party es Holder a = (entry_at es a).holder
-party es Group a = (entry_at es a).group
-party es Participant a = (entry_at es a).participant
+party es level a = party_on (path_of es a) level
 
 -- account a is the party's
 abbrev pub belongs : List Entry → Level → ℕ → ℕ → Bool
@@ -46,8 +54,7 @@ pub record Clashes (es : List Entry) (e : Entry) : Type 0 where
 
 -- the same, as a test
 abbrev pub clashes : List Entry → Entry → Bool
-clashes [] e = false
-clashes (x ∷ xs) e = clash x e || clashes xs e
+clashes es e = list_any (λ x. clash x e) es
 
 -- the answer to one account more: directory full where no more are taken, then unknown, then group clash
 abbrev pub enrolled : ℕ → List Entry → Entry → Result (Unit {0}) Fault

@@ -1,5 +1,5 @@
 -- The published numbers of the levels. Assumes nothing.
-use Rattle.std.specs.Prelude.{ℕ, cond, Some, None, Option, ◌==◌, nat_le}
+use Rattle.std.specs.Prelude.{ℕ, cond, List, [], ◌∷◌, ◌==◌}
 use Rattle.parties.specs.declared.level.Level.{Level}
 use Rattle.parties.specs.declared.level.Level.TheVariants.{Account, Holder, Group, Participant}
 
@@ -13,5 +13,6 @@ level_number Participant = 3
 abbrev pub level_at : ℕ → Level
 level_at n = cond (n == 0) Account (cond (n == 1) Holder (cond (n == 2) Group Participant))
 
-abbrev pub level_of_number : ℕ → Option Level
-level_of_number n = cond (nat_le n 3) (Some (level_at n)) None
+-- all levels, in the order of their numbers
+abbrev pub levels : List Level
+levels = Account ∷ Holder ∷ Group ∷ Participant ∷ []

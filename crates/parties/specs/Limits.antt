@@ -1,16 +1,14 @@
 -- The limits of parties. Assumes nothing.
-use Rattle.std.specs.Prelude.{◌≡◌, ℕ, ◌+◌, ◌*◌, cond, ◌&&◌, List, ℤ, Some, None, Ok, Err, Option, Result, ◌==◌, nat_lt}
+use Rattle.std.specs.Prelude.{◌≡◌, ℕ, cond, ◌&&◌, List, ℤ, Some, None, Ok, Err, Option, Result, ◌==◌, nat_lt}
 use Rattle.ledger.specs.Checks.{unless}
 use Rattle.ledger.specs.declared.faults.Fault.{Fault}
 use Rattle.ledger.specs.declared.faults.Reason.TheVariants.{Unknown, Amount}
 use Rattle.expiry.specs.declared.side.Side.{Side}
-use Rattle.expiry.specs.declared.side.Side.TheVariants.{Long, Short}
-use Rattle.expiry.specs.Sides.{side_number}
+use Rattle.expiry.specs.Sides.{side_number, on_side}
 use Rattle.parties.specs.declared.level.Level.{Level}
-use Rattle.parties.specs.declared.record.LimitRecord.{LimitRecord}
 use Rattle.parties.specs.declared.Limits.{Limits}
 use Rattle.parties.specs.Levels.{level_number}
-use Rattle.parties.specs.Tables.{record_at, limiting}
+use Rattle.parties.specs.Tables.{LimitRecord, record_at, limiting}
 
 -- the limit of each party on each side, if it was set
 abbrev pub Limiting : Type 0
@@ -20,17 +18,9 @@ Limiting = Level → ℕ → Side → Option ℤ
 abbrev pub none_set : Limiting
 none_set level p side = None
 
-abbrev pub side_of : Side → LimitRecord → Option ℤ
-side_of Long r = r.long
-side_of Short r = r.short
-
--- where the record of a party stands
-abbrev pub place : Level → ℕ → ℕ
-place level p = 64 * level_number level + p
-
 -- what the records of a table mean; a party above 63 has no limit
-abbrev pub limits_in : List LimitRecord → Limiting
-limits_in rs level p side = cond (nat_lt p 64) (side_of side (record_at rs (place level p))) None
+abbrev pub limits_in : List (List LimitRecord) → Limiting
+limits_in rs level p side = cond (nat_lt p 64) (on_side (record_at rs (level_number level) p) side) None
 
 abbrev pub limits_of : Limits → Limiting
 limits_of l = limits_in l.records

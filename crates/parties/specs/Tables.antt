@@ -1,7 +1,9 @@
 -- What holds of the tables of accounts and limits. Assumes nothing.
-use Rattle.std.specs.Prelude.{◌≡◌, ℕ, ◌<◌, Bool, true, ◌&&◌, List, ℤ, pos, length, Some, None, Option, int_le, slice_index_or}
+use Rattle.std.specs.Prelude.{◌≡◌, ℕ, ◌<◌, Bool, true, ◌&&◌, List, [], ℤ, pos, length, Some, None, Option, int_le, slice_index_or}
 use Rattle.parties.specs.declared.entry.Entry.{Entry}
-use Rattle.parties.specs.declared.record.LimitRecord.{LimitRecord}
+use Rattle.expiry.specs.declared.side.Side.{Side}
+use Rattle.expiry.specs.declared.side.BySide.{BySide}
+use Rattle.expiry.specs.Sides.{on_side}
 
 -- what is read past the last account
 abbrev pub no_entry : Entry
@@ -30,12 +32,21 @@ abbrev pub proper : Option ℤ → Bool
 proper None = true
 proper (Some m) = limiting m
 
+-- the limits of one party, each missing until it is set
+abbrev pub LimitRecord : Type 0
+LimitRecord = BySide (Option ℤ)
+
 -- what is read past the last record
 abbrev pub no_record : LimitRecord
 no_record = record { long = None; short = None }
 
-abbrev pub record_at : List LimitRecord → ℕ → LimitRecord
-record_at rs k = slice_index_or rs k no_record
+-- the record of the party p at the level with that number
+abbrev pub record_at : List (List LimitRecord) → ℕ → ℕ → LimitRecord
+record_at rs n p = slice_index_or (slice_index_or rs n []) p no_record
 
-abbrev pub AllProper : List LimitRecord → Type 0
-AllProper rs = (k : ℕ) → (proper (record_at rs k).long ≡ true) × (proper (record_at rs k).short ≡ true)
+-- four levels of 64 parties
+abbrev pub IsWhole : List (List LimitRecord) → Type 0
+IsWhole rs = (length rs ≡ 4) × ((n : ℕ) → n < 4 → length (slice_index_or rs n []) ≡ 64)
+
+abbrev pub AllProper : List (List LimitRecord) → Type 0
+AllProper rs = (n p : ℕ) (side : Side) → proper (on_side (record_at rs n p) side) ≡ true

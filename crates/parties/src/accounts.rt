@@ -1,10 +1,13 @@
 // A directory is made empty, and extended by one account at a time.
-ghost use Rattle.std.specs.Prelude.{◌≡◌, ℕ, ◌<◌, ◌&&◌, [], length, Decides, nat_lt};
-ghost use Rattle.parties.specs.Directories.{entries_of, party, belongs, numbered, clash, clashes, Clashes, enrolled, Enrolled, Grouped, PartyAt};
+ghost use Rattle.std.specs.Prelude.{◌≡◌, ℕ, ◌&&◌, [], length, Decides, nat_lt};
+ghost use Rattle.parties.specs.Directories.{entries_of, belongs, numbered, clashes, Clashes, enrolled, Enrolled, Grouped, PartyAt, PathAt};
 
+use crate::Directory;
 use crate::entry::Entry;
 use crate::level::Level;
-use crate::{Directory, WIDTH};
+use crate::path::Path;
+use arrayvec::ArrayVec;
+use ledger::checks::WIDTH;
 use ledger::faults::{Fault, Reason};
 
 fn is_numbered(entry: Entry) -> bool
@@ -13,64 +16,43 @@ fn is_numbered(entry: Entry) -> bool
     entry.holder < WIDTH && entry.group < WIDTH && entry.participant < WIDTH
 }
 
-// Whether two accounts put one holder into two groups.
-fn is_clash(known: Entry, entry: Entry) -> bool
-    ensures { result ≡ clash known entry }
-{
-    known.holder == entry.holder && known.group != entry.group
-}
-
 impl Directory {
     // A directory with no account.
     pub fn new() -> Directory
         ensures { entries_of result ≡ [] }
     {
-        let nobody = Entry {
-            holder: 0,
-            group: 0,
-            participant: 0,
-        };
         Directory {
-            entries: [nobody; 64],
-            count: 0,
+            entries: ArrayVec::new(),
         }
     }
 
     pub fn count(&self) -> usize
         ensures { result ≡ length (entries_of self.now) }
     {
-        self.count
+        self.entries.len()
     }
 
-    // The party of an account that was added.
-    fn party_of(&self, level: Level, account: usize) -> usize
-        requires { account < self.now.count }
-        ensures value { result ≡ party (entries_of self.now) level account }
-        ensures below { result < 64 }
+    // The path of an account; none for an account that was not added.
+    pub fn path(&self, account: usize) -> Option<Path>
+        ensures { PathAt (entries_of self.now) account result }
     {
-        match level {
-            Level::Account => account,
-            Level::Holder => self.entries[account].holder,
-            Level::Group => self.entries[account].group,
-            Level::Participant => self.entries[account].participant,
-        }
+        let entry = *self.entries.get(account)?;
+        Some(Path { account, entry })
     }
 
     // The party of an account at a level; none for an account that was not added.
     pub fn party(&self, level: Level, account: usize) -> Option<usize>
         ensures { PartyAt (entries_of self.now) level account result }
     {
-        if account >= self.count {
-            return None;
-        }
-        Some(self.party_of(level, account))
+        let path = self.path(account)?;
+        Some(path.party(level))
     }
 
     // Whether the account was added and is the party's.
     pub fn belongs(&self, level: Level, party: usize, account: usize) -> bool
         ensures { result ≡ (nat_lt account (length (entries_of self.now)) && belongs (entries_of self.now) level party account) }
     {
-        account < self.count && self.party_of(level, account) == party
+        self.party(level, account) == Some(party)
     }
 
     // Whether the holder has an account in another group.
@@ -78,12 +60,7 @@ impl Directory {
         ensures value { result ≡ clashes (entries_of self.now) entry }
         ensures tells { Decides result (Clashes (entries_of self.now) entry) }
     {
-        for i in 0..self.count {
-            if is_clash(self.entries[i], entry) {
-                return true;
-            }
-        }
-        false
+        self.entries.iter().any(|known| known.holder == entry.holder && known.group != entry.group)
     }
 
     // Adds an account, where at most so many are taken.
@@ -92,7 +69,7 @@ impl Directory {
         ensures left { Enrolled self.old self.new entry result }
         ensures told { Grouped (entries_of self.old) entry result }
     {
-        if self.count >= taken || self.count >= WIDTH {
+        if self.entries.len() >= taken || self.entries.is_full() {
             return Err(Fault::found(Reason::DirectoryFull));
         }
         if !is_numbered(entry) {
@@ -101,8 +78,7 @@ impl Directory {
         if self.has_clash(entry) {
             return Err(Fault::found(Reason::GroupClash));
         }
-        self.entries[self.count] = entry;
-        self.count += 1;
+        self.entries.push(entry);
         Ok(())
     }
 }

@@ -1,12 +1,13 @@
 // The limits of the parties, side by side.
-ghost use Rattle.std.specs.Prelude.{◌≡◌, ℕ, ◌<◌, true};
+ghost use Rattle.std.specs.Prelude.{◌≡◌, ℕ, true};
 ghost use Rattle.parties.specs.Tables.{limiting, proper};
-ghost use Rattle.parties.specs.Limits.{place, limits_of, none_set, settable, Set};
+ghost use Rattle.parties.specs.Limits.{limits_of, none_set, settable, Set};
 
+use crate::Limits;
 use crate::level::Level;
 use crate::record::LimitRecord;
-use crate::{Limits, WIDTH};
 use expiry::side::Side;
+use ledger::checks::WIDTH;
 use ledger::faults::{Fault, Reason};
 
 // No quantity of 64 accounts in 32 strikes comes near it, so a limit of this size never binds.
@@ -19,15 +20,6 @@ pub fn is_limit(limit: i64) -> bool
     0 <= limit && limit <= HIGHEST
 }
 
-// Where the record of a party stands.
-fn place_of(level: Level, party: usize) -> usize
-    requires { party < 64 }
-    ensures value { result ≡ place level party }
-    ensures bound { result < 256 }
-{
-    WIDTH * level.number() + party
-}
-
 impl Limits {
     // Every limit is missing.
     pub fn new() -> Limits
@@ -38,7 +30,7 @@ impl Limits {
             short: None,
         };
         Limits {
-            records: [none; 256],
+            records: [[none; WIDTH]; 4],
         }
     }
 
@@ -50,11 +42,7 @@ impl Limits {
         if party >= WIDTH {
             return None;
         }
-        let record = self.records[place_of(level, party)];
-        match side {
-            Side::Long => record.long,
-            Side::Short => record.short,
-        }
+        self.records[usize::from(level)][party].on(side)
     }
 
     // Sets a limit: the one side of the one party.
@@ -68,10 +56,8 @@ impl Limits {
         if !is_limit(limit) {
             return Err(Fault::found(Reason::Amount));
         }
-        match side {
-            Side::Long => self.records[place_of(level, party)].long = Some(limit),
-            Side::Short => self.records[place_of(level, party)].short = Some(limit),
-        }
+        let row = &mut self.records[usize::from(level)];
+        *row[party].on_mut(side) = Some(limit);
         Ok(())
     }
 }

@@ -10,7 +10,7 @@ fn main(rt: HostRuntime) -> anyhow::Result<()> {
     rt.stdin().read_to_end(&mut input)?;
     let lines = day::stacks::run_day(heap, input.as_slice())?;
     let mut out = BufWriter::new(heap, rt.stdout())?;
-    for line in lines.iter() {
+    for line in &lines {
         out.write_all(line.as_bytes())?;
     }
     out.flush()?;

@@ -5,10 +5,10 @@
 mod tests {
     use cover::CoverLayer;
     use entries::book::EntryBook;
-    use entries::records::Entry;
     use foreign::SpanLayer;
     use grid::GridBook;
     use ledger::actions::Action;
+    use ledger::books::Holding;
     use ledger::cells::{Instruction, Quote};
     use ledger::faults::{Fault, Reason};
     use ledger::ledgers::Ledger;
@@ -23,7 +23,7 @@ mod tests {
         series: usize,
         amount: i64,
     ) -> Result<Quote, Fault> {
-        let action = Action::from_letter(letter)?;
+        let action = Action::try_from(letter)?;
         ledger.instruct(Instruction {
             action,
             account: 0,
@@ -118,13 +118,8 @@ mod tests {
     }
 
     // Whether the numbers from a place on are all 7.
-    fn tail_stays(memory: &Vec<i64>, from: usize) -> bool {
-        for n in memory.iter().skip(from) {
-            if *n != 7 {
-                return false;
-            }
-        }
-        true
+    fn tail_stays(memory: &[i64], from: usize) -> bool {
+        memory.iter().skip(from).all(|n| *n == 7)
     }
 
     // Whole rows of 64 numbers, at most 64; the rest of the memory stays, after making and after a fill.
@@ -150,7 +145,7 @@ mod tests {
     #[test]
     fn an_entry_book_serves_a_freed_record_again(rt: HostRuntime) -> Result<(), Fail> {
         let heap = rt.alloc();
-        let mut book = EntryBook::new(vec![in heap; Entry {
+        let mut book = EntryBook::new(vec![in heap; Holding {
             account: 9,
             series: 9,
             held: 9
@@ -166,7 +161,7 @@ mod tests {
     #[test]
     fn entry_memory(rt: HostRuntime) -> Result<(), Fail> {
         let heap = rt.alloc();
-        let stale = Entry {
+        let stale = Holding {
             account: 1,
             series: 2,
             held: 3,

@@ -1,5 +1,5 @@
 -- A class by its strikes, and how it is extended. Assumes nothing.
-use Rattle.std.specs.Prelude.{◌≡◌, ℕ, ◌-◌, Bool, ◌&&◌, List, [], ◌∷◌, ◌++◌, length, take, Ok, Err, Result, nat_le, nat_lt}
+use Rattle.std.specs.Prelude.{◌≡◌, ℕ, ◌-◌, Bool, ◌&&◌, List, [], ◌∷◌, ◌++◌, length, Ok, Err, Result, nat_le, nat_lt}
 use Rattle.ledger.specs.Checks.{unless}
 use Rattle.ledger.specs.declared.faults.Fault.{Fault}
 use Rattle.ledger.specs.declared.faults.Reason.TheVariants.{ClassFull, Strike as StrikeReason}
@@ -9,7 +9,7 @@ use Rattle.strikes.specs.Strikes.{strike_at}
 
 -- what a class means: the list of its strikes
 abbrev pub strikes_of : Class → List Strike
-strikes_of c = take c.count c.strikes
+strikes_of c = c.strikes.items
 
 -- the price of the last strike, 0 where there is none
 abbrev pub highest : List Strike → ℕ

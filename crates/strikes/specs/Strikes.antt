@@ -16,16 +16,8 @@ prices ss = map (λ s. s.price) ss
 abbrev pub Proper : Strike → Type 0
 Proper s = (1 ≤ s.price) × (s.price ≤ 10000000) × (1 ≤ s.size) × (s.size ≤ 10000)
 
--- so the first n strikes of a table
-abbrev pub AllProper : List Strike → ℕ → Type 0
-AllProper ss n = (i : ℕ) → i < n → Proper (strike_at ss i)
-
--- the first n strikes of a table have rising prices
-abbrev pub Rises : List Strike → ℕ → Type 0
-Rises ss n = (i j : ℕ) → i < j → j < n → (strike_at ss i).price < (strike_at ss j).price
-
--- the strikes of a class: at most 32, each proper, in rising order
+-- the strikes of a class: at most 32, each proper, in rising order of price
 pub record Lawful (ss : List Strike) : Type 0 where
   pub few : length ss ≤ 32
-  pub proper : AllProper ss (length ss)
-  pub rises : Rises ss (length ss)
+  pub proper : (i : ℕ) → i < length ss → Proper (strike_at ss i)
+  pub rises : (i j : ℕ) → i < j → j < length ss → (strike_at ss i).price < (strike_at ss j).price

@@ -2,8 +2,9 @@
 ghost use Rattle.std.specs.Prelude.{◌≡◌, ℕ, []};
 ghost use Rattle.strikes.specs.Classes.{strikes_of, highest, comes_next, extended, Extended};
 
+use crate::Class;
 use crate::strike::Strike;
-use crate::{Class, ROOM};
+use arrayvec::ArrayVec;
 use ledger::faults::{Fault, Reason};
 
 const HIGHEST_PRICE: u64 = 10_000_000;
@@ -16,8 +17,7 @@ impl Class {
         ensures { strikes_of result ≡ [] }
     {
         Class {
-            strikes: [Strike { price: 0, size: 0 }; 32],
-            count: 0,
+            strikes: ArrayVec::new(),
         }
     }
 
@@ -25,10 +25,7 @@ impl Class {
     fn highest(&self) -> u64
         ensures { result ≡ highest (strikes_of self.now) }
     {
-        if self.count == 0 {
-            return 0;
-        }
-        self.strikes[self.count - 1].price
+        self.strikes.last().map_or(0, |strike| strike.price)
     }
 
     // Whether a strike may come next.
@@ -47,14 +44,13 @@ impl Class {
         ensures answer { result ≡ extended (strikes_of self.old) price size }
         ensures left { Extended self.old self.new price size result }
     {
-        if self.count >= ROOM {
+        if self.strikes.is_full() {
             return Err(Fault::found(Reason::ClassFull));
         }
         if !self.takes(price, size) {
             return Err(Fault::found(Reason::Strike));
         }
-        self.strikes[self.count] = Strike { price, size };
-        self.count += 1;
+        self.strikes.push(Strike { price, size });
         Ok(())
     }
 }

@@ -1,22 +1,17 @@
 -- A table after one write. Assumes nothing.
-use Rattle.std.proofs.Common.{◌≡◌, ℕ, ◌<◌, ◌⊎◌, ℤ, sym, refl, ap, ◌∙◌, subst, inl, inr, ⊎_elim, arith, w64, SFits, to_z, of_z}
+use Rattle.std.proofs.Common.{◌≡◌, ℕ, ◌<◌, ◌⊎◌, ℤ, sym, refl, ◌∙◌, subst, ⊎_elim, arith, w64, SFits, to_z, of_z}
 use Rattle.std.proofs.lemmas.Int.{to_z-of_z}
-use Rattle.std.proofs.lemmas.Bool.{cases_eq}
 use Rattle.tables.specs.declared.Table.{Table}
 use Rattle.tables.specs.Tables.{at, rows_of, Wrote, Untouched}
 
 pub same_cell : (a s b r : ℕ) → ((b ≡ a) × (r ≡ s)) ⊎ (b ≡ a → r ≡ s → ⊥)
-same_cell a s b r =
-    ⊎_elim
-    (λ p. ⊎_elim (λ q. inl (p, q)) (λ nq. inr (λ _ q. nq q)) (cases_eq r s))
-    (λ np. inr (λ p _. np p))
-    (cases_eq b a)
+same_cell a s b r = grind arith
 
 -- what holds of every number, and of the new one, holds of every number after
 pub wrote_all : (P : ℤ → Type 0) (t u : Table) (a s : ℕ) (n : ℤ) → Wrote t u a s n → s < 64 → a < rows_of t → P n → ((b r : ℕ) → P (at t b r)) → (b r : ℕ) → P (at u b r)
 wrote_all P t u a s n w l m p all b r =
     ⊎_elim
-    (λ e. subst P (sym (w.here l m) ∙ ap (λ k. at u k s) (sym e.0) ∙ ap (λ k. at u b k) (sym e.1)) p)
+    (λ (e, f). rw (e, f) (subst P (sym (w.here l m)) p))
     (λ ne. subst P (sym (w.elsewhere b r ne)) (all b r))
     (same_cell a s b r)
 
@@ -32,5 +27,5 @@ untouched_onward t u v p q = record {
   space = q.space ∙ p.space;
   long = q.long ∙ p.long;
   rows = q.rows ∙ p.rows;
-  past = λ k h. q.past k (let e = p.rows in omega arith) ∙ p.past k h;
+  past = λ k h. q.past k (omega (arith, p.rows)) ∙ p.past k h;
 }

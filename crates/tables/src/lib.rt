@@ -1,16 +1,17 @@
 // Signed numbers by account and series.
 #![tactic(auto)]
 
-ghost use Rattle.std.specs.Prelude.{◌≡◌, ℕ, IfOk, Decides};
+ghost use Rattle.std.specs.Prelude.{◌≡◌, ℕ, ◌+◌, ◌*◌, ◌<◌, ◌≤◌, ◌⊎◌, IfOk, IfNone, IfSome, Decides};
 ghost use Rattle.tables.specs.Tables.{at, rows_of, items, AllZero, Cleared, Wrote};
 
 use std::alloc::{AllocError, Global};
 
+// The widths are its own: this crate stands on no other.
 const SERIES: usize = 64;
 
 const MOST_ROWS: usize = 64;
 
-const CELLS: usize = 4096;
+const CELLS: usize = SERIES * MOST_ROWS;
 
 // One number for each cell of whole rows of 64, at most 64 rows. What the memory has past them is never touched.
 #[derive(Drop)]
@@ -31,12 +32,11 @@ impl Table {
     pub fn over(memory: Vec<i64>) -> Table
         ensures { Cleared memory.items result }
     {
-        let mut numbers = memory;
-        let end = (numbers.len() / SERIES).min(MOST_ROWS) * SERIES;
-        for k in 0..end {
-            numbers[k] = 0;
-        }
-        Table { numbers }
+        let mut table = Table { numbers: memory };
+        let end = table.rows() * SERIES;
+        let (cells, _) = table.numbers.split_at_mut(end);
+        cells.fill(0);
+        table
     }
 
     pub fn into_memory(self) -> Vec<i64>
@@ -52,36 +52,42 @@ impl Table {
         (self.numbers.len() / SERIES).min(MOST_ROWS)
     }
 
+    // Where the number of a cell stands, if there is such a cell.
+    fn index(&self, account: usize, series: usize) -> Option<usize>
+        ensures there { IfSome result (λ k. (series < 64) × (account < rows_of self.now) × (k ≡ 64 * account + series)) }
+        ensures none { IfNone result ((64 ≤ series) ⊎ (rows_of self.now ≤ account)) }
+    {
+        if series < SERIES && account < self.rows() {
+            Some(SERIES * account + series)
+        } else {
+            None
+        }
+    }
+
     // The number of a cell, and 0 where there is none.
+    #[tactic(auto, using(crate::proofs::Rows::number_out, crate::proofs::Rows::number_in, std::proofs::lemmas::List::get_or_read))]
     pub fn at(&self, account: usize, series: usize) -> i64
         ensures { result ≡ at self.now account series }
     {
-        if series >= SERIES || account >= self.rows() {
+        let Some(k) = self.index(account, series) else {
             return 0;
-        }
-        self.numbers[SERIES * account + series]
+        };
+        self.numbers[k]
     }
 
     // Sets the number of a cell. Where there is none, nothing changes.
     pub fn put(&mut self, account: usize, series: usize, n: i64)
         ensures { Wrote self.old self.new account series n }
     {
-        if series >= SERIES || account >= self.rows() {
-            return;
+        if let Some(k) = self.index(account, series) {
+            self.numbers[k] = n;
         }
-        let k = SERIES * account + series;
-        self.numbers[k] = n;
     }
 
     pub fn is_zero(&self) -> bool
         ensures { Decides result (AllZero self.now) }
     {
         let end = self.rows() * SERIES;
-        for k in 0..end {
-            if self.numbers[k] != 0 {
-                return false;
-            }
-        }
-        true
+        self.numbers[..end].iter().all(|n| *n == 0)
     }
 }

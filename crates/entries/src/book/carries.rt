@@ -5,10 +5,10 @@ ghost use Rattle.entries.specs.Books.{held_at, capacity_of, Keeps};
 ghost use Rattle.entries.specs.Laws.{entry_lawful, entry_laws, keeps_capacity, keeps_still, keeps_onward};
 
 use super::EntryBook;
-use ledger::books::{Book, Holding};
+use ledger::books::{Book, Holding, fill_quote};
 use ledger::cells::{Cell, Instruction, Quote};
-use ledger::checks::{WIDTH, check, is_fill, is_within};
-use ledger::faults::{Fault, Reason};
+use ledger::checks::WIDTH;
+use ledger::faults::Fault;
 use ledger::ledgers::Ledger;
 
 impl Ledger for EntryBook {
@@ -31,40 +31,21 @@ impl Ledger for EntryBook {
     }
 
     fn cell(&self, account: usize, series: usize) -> Cell {
-        let held = self.count(account, series);
-        Cell {
-            held,
-            low: held,
-            high: held,
-            buys: 0,
-            sells: 0,
-            cover: 0,
-        }
+        Cell::of_count(self.count(account, series))
     }
 
     fn quote(&self, i: Instruction) -> Result<Quote, Fault> {
-        check(WIDTH, i)?;
-        if !is_fill(i.action) {
-            return Err(Fault::found(Reason::NoTaker));
-        }
         let before = self.count(i.account, i.series);
-        let held = before + i.amount;
-        if !is_within(held) {
-            return Err(Fault::found(Reason::Reach));
-        }
-        if self.is_full(before) {
-            return Err(Fault::found(Reason::Full));
-        }
-        Ok(Quote {
-            held,
-            low: held,
-            high: held,
-        })
+        fill_quote(WIDTH, before, self.is_full(before), i)
     }
 
     fn instruct(&mut self, i: Instruction) -> Result<Quote, Fault> {
         let quote = self.quote(i)?;
-        self.write(i.account, i.series, quote.held);
+        self.write(Holding {
+            account: i.account,
+            series: i.series,
+            held: quote.held,
+        });
         Ok(quote)
     }
 }
@@ -77,15 +58,7 @@ impl Book for EntryBook {
     ghost fixed = { keeps_capacity };
 
     fn next_held(&self, from: usize) -> Option<Holding> {
-        let k = self.position(from);
-        if k >= self.live {
-            return None;
-        }
-        let e = self.entry_at(k);
-        Some(Holding {
-            account: e.account,
-            series: e.series,
-            held: e.held,
-        })
+        let (Ok(k) | Err(k)) = self.find(from / WIDTH, from % WIDTH);
+        self.held().get(k).copied()
     }
 }

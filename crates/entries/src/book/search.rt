@@ -1,77 +1,44 @@
-// Look-ups by halves.
-ghost use Rattle.std.specs.Prelude.{◌≡◌, ℕ, ◌<◌, not, ◌&&◌, ◌==◌};
-ghost use Rattle.ledger.specs.Actions.{Within, nonzero};
+// Look-ups by binary search.
+ghost use Rattle.std.specs.Prelude.{◌≡◌, ℕ, ◌<◌, not, ◌&&◌, ◌==◌, take};
+ghost use Rattle.ledger.specs.Actions.{nonzero};
 ghost use Rattle.ledger.specs.Books.{held_cells};
 ghost use Rattle.ledger.specs.Listing.{place};
-ghost use Rattle.entries.specs.Records.{Live, Parts, Sought, place_of, nth};
+ghost use Rattle.entries.specs.Records.{Sought};
 ghost use Rattle.entries.specs.Books.{items, held_at, capacity_of};
 
 use super::EntryBook;
-use crate::records::Entry;
+use ledger::books::Holding;
 use ledger::checks::WIDTH;
 
 // The most cells that a book holds.
-pub(super) const MOST: usize = 4096;
+pub(super) const MOST: usize = WIDTH * WIDTH;
 
 impl EntryBook {
-    // A held record.
-    pub(super) fn entry_at(&self, k: usize) -> Entry
-        requires { k < self.now.live }
-        ensures value { result ≡ nth (items self.now) k }
-        ensures live { Live result }
+    // The held records.
+    pub(super) fn held(&self) -> &[Holding]
+        ensures { result.now ≡ take self.now.live (items self.now) }
     {
-        self.records[k]
+        &self.records[..self.live]
     }
 
-    // The place of a held record.
-    pub(super) fn place_at(&self, k: usize) -> usize
-        requires { k < self.now.live }
-        ensures { result ≡ place_of (nth (items self.now) k) }
-    {
-        let e = self.entry_at(k);
-        WIDTH * e.account + e.series
-    }
-
-    // How many held records lie below a place.
-    pub(super) fn position(&self, target: usize) -> usize
-        ensures { Parts (items self.now) self.now.live target result }
-    {
-        let mut low = 0;
-        let mut high = self.live;
-        while low < high {
-            let middle = low + (high - low) / 2;
-            if self.place_at(middle) < target {
-                low = middle + 1;
-            } else {
-                high = middle;
-            }
-        }
-        low
-    }
-
-    // Where the record of a cell stands, or where it would.
+    // Where the record of a cell stands among the held ones, or where it would.
     pub(super) fn find(&self, account: usize, series: usize) -> Result<usize, usize>
-        requires { (account < 64) × (series < 64) }
+        requires { series < 64 }
         ensures { Sought (items self.now) self.now.live (place account series) result }
     {
-        let place = WIDTH * account + series;
-        let k = self.position(place);
-        if k < self.live && self.place_at(k) == place {
-            return Ok(k);
-        }
-        Err(k)
+        self.held()
+            .binary_search_by_key(&(account, series), |e| (e.account, e.series))
     }
 
     // The count held of a cell.
     pub(super) fn count(&self, account: usize, series: usize) -> i64
-        ensures value { result ≡ held_at self.now account series }
-        ensures within { Within result }
+        ensures { result ≡ held_at self.now account series }
     {
-        if account >= WIDTH || series >= WIDTH {
+        if series >= WIDTH {
             return 0;
         }
         match self.find(account, series) {
-            Ok(k) => self.entry_at(k).held,
+            Ok(k) => self.held()[k].held,
             Err(_) => 0,
         }
     }

@@ -1,7 +1,8 @@
-use Rattle.std.proofs.Common.{◌<◌}
+use Rattle.std.proofs.Common.{◌≡◌, ◌+◌, length, get_or}
 use Rattle.std.specs.List.{IsFirstBest}
 use Rattle.greatest.specs.Greatest.{above}
 use Rattle.greatest.proofs.first_greatest.Given as goal
 
 abbrev pub invariant-loop-i : goal.invariant-loop-i
-invariant-loop-i g l = (l.first < l.i) × IsFirstBest (above g.T.Ord.cmp) l.list l.i l.first
+invariant-loop-i g l = IsFirstBest (above g.T.Ord.cmp) l.list (length l.yielded + 1) l.first
+    × (l.greatest ≡ get_or l.list l.first l.greatest)

@@ -5,7 +5,8 @@ use Rattle.day.specs.Days.{buffer, Serves}
 use Rattle.day.specs.Runs.{Run}
 use Rattle.day.specs.Sheets.{AddsSheet}
 use Rattle.day.specs.Stacks.{Orders, meaning_of, Kept}
-use Rattle.day.proofs.Opening.{day_of, made_weaker}
+use Rattle.std.proofs.lemmas.Result.{IfOk-weaker}
+use Rattle.day.proofs.Opening.{day_of}
 use Rattle.day.proofs.stacks.run_day.Goals as goal
 
 pub returns : goal.returns
@@ -17,7 +18,7 @@ returns c =
     let answers = vec_items c.in_ok-answers.answers in
     let book = c.below-2.ensures ∙ ap (λ (o : Orders). o.below) c.below.ensures in
     let run = subst (λ ls. Run (Serves meaning_of Kept) first (map (λ x. x.now) ls) (map buffer answers) last) c.as_slice.ensures.value c.in_ok-answers.ensures.made in
-    made_weaker _ _ c.add_sheet.result
+    IfOk-weaker c.add_sheet.result _ _
     (λ v sheet. day_of text first last lines answers (vec_items v) c.in_ok-stack.ensures c.in_ok-lines.ensures run
     (subst (λ (b : GridBook). AddsSheet (grid_meaning b.held).cell answers (vec_items v)) book sheet))
     c.add_sheet.ensures

@@ -1,11 +1,12 @@
-use Rattle.expiry.proofs.Bounds.{product_fits, product_value, product_bound}
+use Rattle.std.proofs.Common.{◌≡◌, pos, ◌*ℤ◌, arith, w64, to_z, of_z}
+use Rattle.std.proofs.lemmas.Int.{ints}
+use Rattle.expiry.proofs.Bounds.{near_times}
 use Rattle.expiry.proofs.flows.units.Goals as goal
 
-pub overflow_mul-result : goal.overflow_mul-result
-overflow_mul-result c = product_fits c.args.count.value c.value.result c.args.size c.value.ensures c.args.count.near c.requires
-
 pub returns : goal.returns
-returns c = record {
-  value = product_value c.args.count.value c.value.result c.args.size c.value.ensures c.args.count.near c.requires;
-  bound = product_bound c.args.count.value c.value.result c.args.size c.value.ensures c.args.count.near c.requires;
-}
+returns c =
+    let near = near_times 64000000000 10000 c.args.size c.args.count.value c.args.count.near c.requires in
+    let count : to_z w64 (of_z w64 c.value.result) ≡ c.args.count.value = omega (arith, ints) in
+    let size : to_z w64 c.args.size ≡ pos c.args.size = omega (arith, ints) in
+    let product : (to_z w64 (of_z w64 c.value.result) *ℤ to_z w64 c.args.size) ≡ (c.args.count.value *ℤ pos c.args.size) = cc in
+    record { value = omega (arith, ints); bound = (omega (arith, ints), omega (arith, ints)) }

@@ -1,5 +1,4 @@
-use Rattle.std.proofs.Common.{sym, ap, ◌∙◌, subst, w64, SFits, rules}
-use Rattle.ledger.specs.declared.cells.Quote.{Quote}
+use Rattle.std.proofs.Common.{sym, ap, ◌∙◌, w64, SFits, rules}
 use Rattle.ledger.specs.Actions.{Within}
 use Rattle.ledger.specs.Books.{book_cell}
 use Rattle.ledger.proofs.BookFacts.{book_ok, filled_after}
@@ -13,25 +12,22 @@ invariant_of-self c =
     let t = c.args.self.now.held in
     let q = c.in_ok-quote.quote in
     let f = book_ok (rows_of t) (grid_capacity t) (at t) c.args.i q (sym c.in_ok-quote.ensures) in
-    let s : SFits w64 q.held = search rules in
-    record { near = wrote_all Within _ _ _ _ _ (wrote_fits q.held s c.put.ensures) f.checks.series f.checks.account (subst (λ (r : Quote). Within r.held) (sym f.is) f.reach) c.args.self.now.near }
+    let fits : SFits w64 q.held = search rules in
+    let near : Within q.held = rw f.is f.reach in
+    record { near = wrote_all Within _ _ _ _ _ (wrote_fits q.held fits c.put.ensures) f.checks.series f.checks.account near c.args.self.now.near }
 
-pub returns : goal.returns
-returns c =
-    let e = c.in_ok-quote.ensures in
+pub returns-clause-carried : goal.returns-clause-carried
+returns-clause-carried c =
     let t = c.args.self.now.held in
     let q = c.in_ok-quote.quote in
-    let s : SFits w64 q.held = search rules in
-    let w = wrote_fits q.held s c.put.ensures in
-    let f = book_ok (rows_of t) (grid_capacity t) (at t) c.args.i q (sym e) in
+    let f = book_ok (rows_of t) (grid_capacity t) (at t) c.args.i q (sym c.in_ok-quote.ensures) in
+    let fits : SFits w64 q.held = search rules in
+    let w = wrote_fits q.held fits c.put.ensures in
     record {
-      carried = record {
-        answer = e;
-        left = record {
-          here = ap book_cell (w.here f.checks.series f.checks.account) ∙ filled_after _ _ _ c.args.i q f;
-          elsewhere = λ a s ne. ap book_cell (w.elsewhere a s ne);
-        };
-        taken = w.untouched.rows;
+      answer = c.in_ok-quote.ensures;
+      left = record {
+        here = ap book_cell (w.here f.checks.series f.checks.account) ∙ filled_after _ _ _ c.args.i q f;
+        elsewhere = λ a s ne. ap book_cell (w.elsewhere a s ne);
       };
-      kept = w.untouched;
+      taken = w.untouched.rows;
     }

@@ -5,8 +5,8 @@ use Rattle.limiter.proofs.running.run.Given as goal
 
 -- the calls so far are run, and there is room for the answers
 abbrev pub invariant-loop-call : goal.invariant-loop-call
-invariant-loop-call g l =
-    (vec_len l.answers ≡ l.call-index)
-    × (length l.calls ≤ vec_capacity l.answers)
-    × (l.call-index ≤ length l.calls)
-    × Promised g.L.Ledger.meaning g.L.Ledger.keeps l.initial.limiter.ledger (take l.call-index l.calls) (vec_items l.answers) (state_of l.limiter)
+invariant-loop-call g l = record {
+  answered : vec_len l.answers ≡ l.call-index;
+  room : length l.calls ≤ vec_capacity l.answers;
+  promised : Promised g.L.Ledger.meaning g.L.Ledger.keeps l.initial.limiter.ledger (take l.call-index l.calls) (vec_items l.answers) (state_of l.limiter);
+}

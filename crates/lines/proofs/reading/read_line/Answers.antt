@@ -1,54 +1,69 @@
-use Rattle.std.proofs.Common.{◌≡◌, ◌≤◌, length, get_or, arith, rules, ltb-false, ltb-true}
-use Rattle.ledger.specs.declared.actions.Action.{Action}
-use Rattle.ledger.specs.declared.actions.Action.TheVariants.{Fill, PlaceBuy, PlaceSell, CancelBuy, CancelSell, ExecuteBuy, ExecuteSell, AddCover, TakeCover}
+use Rattle.std.proofs.Common.{◌≡◌, ℕ, [], ◌∷◌, length, ℤ, pos, nat_abs, sym, refl, ap, ◌∙◌, arith, rules, w64, SFits, to_z, of_z}
+use Rattle.std.proofs.lemmas.Int.{to_z-of_z}
+use Rattle.std.proofs.lemmas.List.{nil_from_length}
 use Rattle.ledger.specs.Actions.{letter}
-use Rattle.lines.proofs.Whole.{lettered, answered, refused, empty_line, other_letter}
+use Rattle.lines.specs.declared.fields.Kind.TheVariants.{Plain}
+use Rattle.lines.specs.Lines.{amount_kind}
+use Rattle.lines.proofs.Splits.{not_first}
+use Rattle.lines.proofs.Numbers.{stuck_behind, parts_behind}
+use Rattle.lines.proofs.Whole.{no_letter, refused, refused_behind, instructed, left_over}
 use Rattle.lines.proofs.reading.read_line.Goals as goal
 
 pub returns-in_default : goal.returns-in_default
-returns-in_default c =
-    let l : length c.args.line.now ≡ 0 = omega (arith, ltb-true, ltb-false) in
-    answered _ _ (refused _ c.misfit.ensures (empty_line c.args.line.now l))
+returns-in_default c = refused _ _ 0 c.misfit.ensures (no_letter _ (λ a. not_first (letter a) c.args.line.now (λ l. absurd (omega arith))))
 
-pub returns-in-F : goal.returns-in-F
-returns-in-F c = lettered _ c.args.line.now (omega (arith, ltb-true, ltb-false)) c.in-F.is c.read_instruction.ensures
+pub returns-in_default-try_from : goal.returns-in_default-try_from
+returns-in_default-try_from c = refused _ _ 0 c.misfit-in_default-try_from.ensures (no_letter _ (λ a. not_first (letter a) c.args.line.now (λ l e. c.in_default-try_from.ensures.1 a (sym e))))
 
-pub returns-in-B : goal.returns-in-B
-returns-in-B c = lettered _ c.args.line.now (omega (arith, ltb-true, ltb-false)) c.in-B.is c.read_instruction-in-B.ensures
+pub returns-in_default-field : goal.returns-in_default-field
+returns-in_default-field c =
+    let a = c.in-Ok.action in
+    refused_behind a _ c.in-len1-up.len_at_least c.in-Ok.ensures _ _ c.misfit-in_default-field.ensures
+    (c.in_default-field.ensures (Plain ∷ amount_kind a ∷ []))
 
-pub returns-in-S : goal.returns-in-S
-returns-in-S c = lettered _ c.args.line.now (omega (arith, ltb-true, ltb-false)) c.in-S.is c.read_instruction-in-S.ensures
+pub returns-in_default-field-2 : goal.returns-in_default-field-2
+returns-in_default-field-2 c =
+    let a = c.in-Ok.action in
+    refused_behind a _ c.in-len1-up.len_at_least c.in-Ok.ensures _ _ c.misfit-in_default-field-2.ensures
+    (stuck_behind Plain (Plain ∷ amount_kind a ∷ []) c.in-Some.ensures
+    (c.in_default-field-2.ensures (amount_kind a ∷ [])))
 
-pub returns-in-C : goal.returns-in-C
-returns-in-C c = lettered _ c.args.line.now (omega (arith, ltb-true, ltb-false)) c.in-C.is c.read_instruction-in-C.ensures
+pub returns-in_default-field-3 : goal.returns-in_default-field-3
+returns-in_default-field-3 c =
+    let a = c.in-Ok.action in
+    let third = rw c.amount_kind.ensures at (c.in_default-field-3.ensures []) in
+    refused_behind a _ c.in-len1-up.len_at_least c.in-Ok.ensures _ _ c.misfit-in_default-field-3.ensures
+    (stuck_behind Plain (Plain ∷ amount_kind a ∷ []) c.in-Some.ensures
+    (stuck_behind Plain (amount_kind a ∷ []) c.in-Some-field.ensures third))
 
-pub returns-in-D : goal.returns-in-D
-returns-in-D c = lettered _ c.args.line.now (omega (arith, ltb-true, ltb-false)) c.in-D.is c.read_instruction-in-D.ensures
+pub returns-in_default-rest : goal.returns-in_default-rest
+returns-in_default-rest c =
+    let a = c.in-Ok.action in
+    let third = rw c.amount_kind.ensures at c.in-Some-field-2.ensures in
+    refused_behind a _ c.in-len1-up.len_at_least c.in-Ok.ensures _ _ c.misfit-in_default-rest.ensures
+    (stuck_behind Plain (Plain ∷ amount_kind a ∷ []) c.in-Some.ensures
+    (stuck_behind Plain (amount_kind a ∷ []) c.in-Some-field.ensures
+    (stuck_behind (amount_kind a) [] third
+    (left_over _ _ c.in_default-rest.len_at_least))))
 
-pub returns-in-E : goal.returns-in-E
-returns-in-E c = lettered _ c.args.line.now (omega (arith, ltb-true, ltb-false)) c.in-E.is c.read_instruction-in-E.ensures
+-- a natural number stays what it is in a cast
+cast_same : (z : ℤ) (n : ℕ) → SFits w64 z → z ≡ pos n → pos (nat_abs (to_z w64 (of_z w64 z))) ≡ z
+cast_same z n f e = ap (λ x. pos (nat_abs x)) (to_z-of_z w64 z f ∙ e) ∙ sym e
 
-pub returns-in-G : goal.returns-in-G
-returns-in-G c = lettered _ c.args.line.now (omega (arith, ltb-true, ltb-false)) c.in-G.is c.read_instruction-in-G.ensures
-
-pub returns-in-K : goal.returns-in-K
-returns-in-K c = lettered _ c.args.line.now (omega (arith, ltb-true, ltb-false)) c.in-K.is c.read_instruction-in-K.ensures
-
-pub returns-in-U : goal.returns-in-U
-returns-in-U c = lettered _ c.args.line.now (omega (arith, ltb-true, ltb-false)) c.in-U.is c.read_instruction-in-U.ensures
-
-pub returns-in_default-2 : goal.returns-in_default-2
-returns-in_default-2 c =
-    let l : 1 ≤ length c.args.line.now = omega (arith, ltb-true, ltb-false) in
-    answered _ _ (refused _ c.misfit-in_default-2.ensures (other_letter c.args.line.now none l))
-  where
-    none : (a : Action) → get_or c.args.line.now 0 0 ≡ letter a → ⊥
-    none Fill e = search rules
-    none PlaceBuy e = search rules
-    none PlaceSell e = search rules
-    none CancelBuy e = search rules
-    none CancelSell e = search rules
-    none ExecuteBuy e = search rules
-    none ExecuteSell e = search rules
-    none AddCover e = search rules
-    none TakeCover e = search rules
+pub returns : goal.returns
+returns c =
+    let a = c.in-Ok.action in
+    let third = rw c.amount_kind.ensures at c.in-Some-field-2.ensures in
+    let p = c.in-Some.ensures.2.reads in
+    let q = c.in-Some-field.ensures.2.reads in
+    let f : SFits w64 c.in-Some.account = search rules in
+    let g : SFits w64 c.in-Some-field.series = search rules in
+    let h : SFits w64 c.in-Some-field-2.amount = search rules in
+    let x = cast_same c.in-Some.account p.0 f p.1 in
+    let y = cast_same c.in-Some-field.series q.0 g q.1 in
+    let w = to_z-of_z w64 c.in-Some-field-2.amount h in
+    let l : length c.field-3.new.self.rest.now ≡ 0 = omega arith in
+    instructed a _ c.in-len1-up.len_at_least c.in-Ok.ensures _ (c.in-Some.account ∷ c.in-Some-field.series ∷ c.in-Some-field-2.amount ∷ []) refl (cc)
+    (parts_behind Plain 1 (Plain ∷ amount_kind a ∷ []) (c.in-Some-field.series ∷ c.in-Some-field-2.amount ∷ []) c.in-Some.ensures
+    (parts_behind Plain _ (amount_kind a ∷ []) (c.in-Some-field-2.amount ∷ []) c.in-Some-field.ensures
+    (parts_behind (amount_kind a) _ [] [] third (nil_from_length _ l))))

@@ -1,21 +1,13 @@
-use Rattle.std.proofs.Common.{◌≡◌, ◌/◌, ◌%◌, pos, vec_items, sym, refl, ap, ◌∙◌, arith, w64, of_z}
-use Rattle.std.proofs.lemmas.List.{get_or_read}
-use Rattle.std.proofs.lemmas.Bool.{false≢true}
+use Rattle.std.proofs.Common.{◌≡◌, ◌*◌, All, take, pos, vec_items, arith, rules}
+use Rattle.std.specs.Bool.{Decides}
 use Rattle.tables.specs.Tables.{rows_of}
-use Rattle.tables.proofs.Rows.{number_zero, number_at}
+use Rattle.tables.proofs.Rows.{zero_cells}
 use Rattle.tables.proofs.Table.is_zero.Goals as goal
 
-pub returns-then-index-ne0 : goal.returns-then-index-ne0
-returns-then-index-ne0 c = (
-  λ e. absurd (false≢true e),
-  λ z.
-      let t = c.args.self.now in
-      let k = c.loop-k.k in
-      let xs = vec_items t.numbers in
-      let read = get_or_read xs k _ (omega arith) c.index.ensures (pos 0) in
-      let zero : c.index.result.now ≡ pos 0 = read ∙ sym (number_at xs (rows_of t) k (omega arith)) ∙ z (k / 64) (k % 64) in
-      absurd (c.if-index-ne0.true (ap (of_z w64) zero)),
-)
-
 pub returns : goal.returns
-returns c = (λ _ a s. number_zero _ _ a s (λ k h. c.loop-k.invariant k (omega arith)), λ _. refl)
+returns c =
+    let t = c.args.self.now in
+    let n = c.rows-end.result * 64 in
+    let tested : Decides c.all.result (All (λ z. z ≡ pos 0) (take n (vec_items t.numbers))) = search rules in
+    let cells = zero_cells (vec_items t.numbers) (rows_of t) n (omega arith) (omega arith) in
+    (λ e. cells.0 (tested.0 e), λ z. tested.1 (cells.1 z))

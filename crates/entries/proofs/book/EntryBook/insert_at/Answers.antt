@@ -1,22 +1,21 @@
-use Rattle.std.proofs.Common.{◌-◌, vec_items, vec_len, arith}
-use Rattle.entries.proofs.Whole.{book_from, exchange_keeps, put_ordered, put_wrote}
+use Rattle.std.proofs.Common.{arith}
+use Rattle.std.proofs.lemmas.List.{with_items_is}
+use Rattle.entries.proofs.Writes.{inserted_ordered, inserted_here, inserted_elsewhere}
 use Rattle.entries.proofs.book.EntryBook.insert_at.Goals as goal
 
 pub invariant_of-self : goal.invariant_of-self
 invariant_of-self c =
     let x = c.args.self.now in
-    let v = c.exchange.new.records in
-    let o = book_from v _ (vec_len x.records) c.exchange.ensures.len
-    (put_ordered x c.args.k c.capacity-last.result c.args.e c.capacity-last.ensures c.requires.gap c.requires.live c.requires.room (vec_items v) c.exchange.ensures.items) in
-    record { fits = o.fits; rises = o.rises; known = o.known; free = o.free }
+    let same = with_items_is x.records c.put_in.new.records (omega arith) in
+    let o = inserted_ordered x.ordered (rw same (rw c.deref_mut.ensures.value at c.put_in.ensures)) c.requires.gap c.requires.room c.requires.live in
+    record { ordered = o }
 
-pub returns : goal.returns
-returns c =
+pub returns-clause-wrote : goal.returns-clause-wrote
+returns-clause-wrote c =
     let x = c.args.self.now in
-    let within = c.requires.gap.within in
-    let room = c.requires.room in
-    let end = c.capacity-last.ensures in
+    let same = with_items_is x.records c.put_in.new.records (omega arith) in
+    let i = rw c.deref_mut.ensures.value at c.put_in.ensures in
     record {
-      wrote = put_wrote x c.args.k c.capacity-last.result c.args.e end c.requires.gap c.requires.live room _ c.exchange.ensures.items c.exchange.ensures.len;
-      kept = exchange_keeps x _ (c.capacity-last.result - 1) c.args.k c.capacity-last.result _ end (omega arith) (omega arith) c.exchange.ensures.items c.exchange.ensures.len c.exchange.ensures.cap;
+      here = rw same (inserted_here x.ordered i c.requires.gap c.requires.room c.requires.live);
+      elsewhere = rw same (inserted_elsewhere x.ordered i c.requires.gap c.requires.room c.requires.live);
     }

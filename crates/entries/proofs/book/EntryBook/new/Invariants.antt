@@ -1,10 +1,9 @@
-use Rattle.std.proofs.Common.{◌≡◌, ℕ, ◌<◌, ◌≤◌, vec_items, vec_len}
+use Rattle.std.proofs.Common.{◌≡◌, ℕ, ◌<◌, ◌≤◌}
 use Rattle.entries.specs.Records.{nth}
 use Rattle.entries.specs.Books.{freed}
 use Rattle.entries.proofs.book.EntryBook.new.Given as goal
 
-abbrev pub invariant-loop-k : goal.invariant-loop-k
-invariant-loop-k l =
-    (vec_len l.records ≡ vec_len l.initial.records)
-    × ((j : ℕ) → j < l.k → nth (vec_items l.records) j ≡ freed (nth (vec_items l.initial.records) j))
-    × ((j : ℕ) → l.k ≤ j → nth (vec_items l.records) j ≡ nth (vec_items l.initial.records) j)
+abbrev pub invariant-loop-e : goal.invariant-loop-e
+invariant-loop-e l =
+    ((j : ℕ) → j < l.e-index → nth l.e-items j ≡ freed (nth l.initial.e-items j))
+    × ((j : ℕ) → l.e-index ≤ j → nth l.e-items j ≡ nth l.initial.e-items j)

@@ -1,21 +1,21 @@
-use Rattle.std.proofs.Common.{◌-◌, vec_items, vec_len, arith}
-use Rattle.entries.proofs.Whole.{book_from, exchange_keeps, out_ordered, out_wrote}
+use Rattle.std.proofs.Common.{arith}
+use Rattle.std.proofs.lemmas.List.{with_items_is}
+use Rattle.entries.proofs.Writes.{removed_ordered, removed_here, removed_elsewhere}
 use Rattle.entries.proofs.book.EntryBook.remove_at.Goals as goal
 
 pub invariant_of-self : goal.invariant_of-self
 invariant_of-self c =
     let x = c.args.self.now in
-    let v = c.exchange.new.records in
-    let o = book_from v _ (vec_len x.records) c.exchange.ensures.len
-    (out_ordered x c.args.k c.capacity-last.result c.capacity-last.ensures c.requires (vec_items v) c.exchange.ensures.items) in
-    record { fits = o.fits; rises = o.rises; known = o.known; free = o.free }
+    let same = with_items_is x.records c.take_out.new.records (omega arith) in
+    let o = removed_ordered x.ordered (rw same (rw c.deref_mut.ensures.value at c.take_out.ensures)) c.requires in
+    record { ordered = o }
 
-pub returns : goal.returns
-returns c =
+pub returns-clause-wrote : goal.returns-clause-wrote
+returns-clause-wrote c =
     let x = c.args.self.now in
-    let fits = x.fits in
-    let end = c.capacity-last.ensures in
+    let same = with_items_is x.records c.take_out.new.records (omega arith) in
+    let i = rw c.deref_mut.ensures.value at c.take_out.ensures in
     record {
-      wrote = out_wrote x c.args.k c.capacity-last.result end c.requires _ c.exchange.ensures.items c.exchange.ensures.len;
-      kept = exchange_keeps x _ c.args.k (c.capacity-last.result - 1) c.capacity-last.result _ end (omega arith) (omega arith) c.exchange.ensures.items c.exchange.ensures.len c.exchange.ensures.cap;
+      here = rw same (removed_here x.ordered i c.requires);
+      elsewhere = rw same (removed_elsewhere x.ordered i c.requires);
     }
