@@ -19,7 +19,7 @@ use Rattle.ledger.proofs.Chains.{then_err, checked_ok}
 use Rattle.tables.specs.declared.Table.{Table}
 use Rattle.tables.specs.Tables.{at, Wrote}
 use Rattle.tables.proofs.Bounded.{wrote_up_to, none_beyond, wrote_here, wrote_bounded}
-use Rattle.cover.specs.Covering.{CoverIn, Covered, with_cover, cover_cell, cover_quote, cover_sent, cover_after, cover_meaning}
+use Rattle.cover.specs.Covering.{CoverIn, Covered, with_cover, cover_cell, cover_quote, cover_sent, cover_answer, cover_after, cover_meaning}
 
 -- an answer that is no refusal, where k is the cover after it
 pub record Carried (m : Meaning) (i : Instruction) (k : ℤ) (q : Quote) : Type 0 where
@@ -29,10 +29,11 @@ pub record Carried (m : Meaning) (i : Instruction) (k : ℤ) (q : Quote) : Type 
   pub answers : asked m i.account i.series (cover_sent i.action i) ≡ Ok under
   pub is : q ≡ cover_quote under k
 
-pub cover_ok : (m : Meaning) (t : Table) (i : Instruction) (q : Quote) → (cover_meaning m t).quoted i ≡ Ok q → Carried m i (cover_after t i) q
-cover_ok m t i q p = of (asked m i.account i.series (cover_sent i.action i)) refl
+-- the same of any k, as the layer answers where k would be the cover
+pub answer_ok : (m : Meaning) (i : Instruction) (k : ℤ) (q : Quote) → cover_answer m i k ≡ Ok q → Carried m i k q
+answer_ok m i k q p = of (asked m i.account i.series (cover_sent i.action i)) refl
   where
-    of : (r : Answer) → asked m i.account i.series (cover_sent i.action i) ≡ r → Carried m i (cover_after t i) q
+    of : (r : Answer) → asked m i.account i.series (cover_sent i.action i) ≡ r → Carried m i k q
     of (Ok u) e = record {
       checks = checked_ok m.taken i tt (grind (arith, ints));
       cover = (grind (arith, ints), grind (arith, ints));
@@ -41,6 +42,9 @@ cover_ok m t i q p = of (asked m i.account i.series (cover_sent i.action i)) ref
       is = grind (arith, ints);
     }
     of (Err f) e = absurd (grind (arith, ints))
+
+pub cover_ok : (m : Meaning) (t : Table) (i : Instruction) (q : Quote) → (cover_meaning m t).quoted i ≡ Ok q → Carried m i (cover_after t i) q
+cover_ok m t i q p = answer_ok m i (cover_after t i) q p
 
 is_below : (z : ℤ) → int_lt z (pos 0) ≡ true → z <ℤ pos 0
 is_below z e = grind (arith, ints)

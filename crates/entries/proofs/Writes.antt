@@ -1,5 +1,5 @@
 -- Records after one is put in, taken out or written over. Assumes nothing.
-use Rattle.std.specs.Prelude.{◌≡◌, ℕ, ◌+◌, ◌-◌, ◌<◌, List, pos, ◌≢◌, length, slice_set, refl}
+use Rattle.std.specs.Prelude.{◌≡◌, ℕ, ◌+◌, ◌-◌, ◌<◌, ◌≤◌, List, pos, ◌≢◌, length, slice_set, refl}
 use Rattle.std.proofs.Common.{sym, ap, subst, ◌∙◌, ⊎_elim, arith, get_or-set_same, get_or-set_other}
 use Rattle.std.proofs.lemmas.Bool.{cases_lt, cases_eq, cases_order}
 use Rattle.ledger.specs.declared.books.Holding.{Holding}
@@ -25,7 +25,8 @@ same_count xs {ys} {m} {end} o a s there back =
     held_none ys end a s (λ k l h. let t = back k l h in g.none t.0 t.1 (subst (λ e. Holds e a s) (sym t.2) h)) ∙ sym g.count)
     (held_cases xs end a s)
 
-module _ {xs ys : List Holding} {n k end : ℕ} {e : Holding} (o : Ordered xs n end) (i : Inserted xs ys k n e) (gap : Gap xs n (place_of e) k) (room : n < end) (live : Live e) where
+-- the last record below the end is free, and serves for the new one
+module _ {xs ys : List Holding} {n k last end : ℕ} {e : Holding} (o : Ordered xs n end) (i : Inserted xs ys k last e) (gap : Gap xs n (place_of e) k) (room : n ≤ last) (below : last + 1 ≡ end) (live : Live e) where
   new_at : (j : ℕ) → j ≡ k → nth ys j ≡ e
   new_at j q = ap (nth ys) q ∙ i.new
 
@@ -34,7 +35,7 @@ module _ {xs ys : List Holding} {n k end : ℕ} {e : Holding} (o : Ordered xs n 
     fits = omega arith;
     rises = λ h j l m. grind (arith, i.before h, i.before j, i.onward h, i.onward j, new_at h, new_at j, gap.within, gap.before h, gap.onward (j - 1), o.rises h j, o.rises h (j - 1), o.rises (h - 1) (j - 1));
     known = λ j l. grind (arith, i.before j, i.onward j, new_at j, gap.within, o.known j, o.known (j - 1));
-    free = λ j g l. rw (i.past j (omega arith)) (o.free j (omega arith) l);
+    free = λ j g l. rw (i.onward j (omega (arith, gap.within)) (omega arith)) (o.free (j - 1) (omega arith) (omega arith));
   }
 
   pub inserted_here : held_in ys end e.account e.series ≡ e.held
@@ -46,46 +47,49 @@ module _ {xs ys : List Holding} {n k end : ℕ} {e : Holding} (o : Ordered xs n 
       let within = gap.within in
       same_count xs inserted_ordered a s
       (λ j l h.
-      let below = holds_below o j a s l h in
+      let m = holds_below o j a s l h in
       ⊎_elim (λ u. (j, l, i.before j u)) (λ u. (j + 1, omega arith, grind (arith, i.onward (j + 1)))) (cases_lt j k))
       (λ j l h.
-      let below = holds_below inserted_ordered j a s l h in
+      let m = holds_below inserted_ordered j a s l h in
       ⊎_elim
       (λ q. absurd (let f = rw (new_at j q) at h in ne (sym f.account) (sym f.series)))
       (⊎_elim (λ u. (j, l, sym (i.before j u))) (λ u. (j - 1, omega arith, sym (i.onward j u (omega arith)))))
       (cases_order j k))
 
-module _ {xs ys : List Holding} {n k end : ℕ} (o : Ordered xs n end) (i : Removed xs ys k (n - 1)) (l : k < n) where
+module _ {xs ys : List Holding} {n k last end : ℕ} (o : Ordered xs n end) (i : Removed xs ys k last) (l : k < n) (below : last + 1 ≡ end) where
   pub removed_ordered : Ordered ys (n - 1) end
   removed_ordered = record {
     fits = omega (arith, o.fits);
-    rises = λ h j less below. grind (arith, i.before h, i.before j, i.onward h, i.onward j, o.rises h j, o.rises h (j + 1), o.rises (h + 1) (j + 1));
-    known = λ j below. grind (arith, i.before j, i.onward j, o.known j, o.known (j + 1));
-    free = λ j from to. grind (arith, i.free, i.past j, o.free j);
+    rises = λ h j less m. grind (arith, o.fits, i.before h, i.before j, i.onward h, i.onward j, o.rises h j, o.rises h (j + 1), o.rises (h + 1) (j + 1));
+    known = λ j m. grind (arith, o.fits, i.before j, i.onward j, o.known j, o.known (j + 1));
+    free = λ j from to. ⊎_elim
+        (λ m. rw (i.onward j (omega arith) m) (o.free (j + 1) (omega arith) (omega arith)))
+        (λ g. let at : j ≡ last = omega arith in rw (at, i.free) refl)
+        (cases_lt j last);
   }
 
   -- a record after the removal is one from before it
   removed_back : (j : ℕ) → j < n - 1 → (b : ℕ) × (b < n) × (nth xs b ≡ nth ys j) × (b ≢ k)
-  removed_back j below =
+  removed_back j m =
       ⊎_elim
       (λ u. (j, omega arith, sym (i.before j u), λ q. omega arith))
-      (λ u. (j + 1, omega arith, sym (i.onward j u below), λ q. omega arith))
+      (λ u. (j + 1, omega arith, sym (i.onward j u (omega (arith, o.fits))), λ q. omega arith))
       (cases_lt j k)
 
   pub removed_here : held_in ys end (nth xs k).account (nth xs k).series ≡ pos 0
   removed_here =
-      held_missing removed_ordered _ _ (λ j below e.
-      let t = removed_back j below in
+      held_missing removed_ordered _ _ (λ j m e.
+      let t = removed_back j m in
       t.3 (alone o t.0 k t.1 l (ap place_of t.2 ∙ e)))
 
   pub removed_elsewhere : (a s : ℕ) → (a ≡ (nth xs k).account → s ≡ (nth xs k).series → ⊥) → held_in ys end a s ≡ held_in xs end a s
   removed_elsewhere a s ne =
       same_count xs removed_ordered a s
       (λ j to h.
-      let below = holds_below o j a s to h in
+      let m = holds_below o j a s to h in
       ⊎_elim
       (λ q. absurd (let f = rw q at h in ne (sym f.account) (sym f.series)))
-      (⊎_elim (λ u. (j, to, i.before j u)) (λ u. (j - 1, omega arith, grind (arith, i.onward (j - 1)))))
+      (⊎_elim (λ u. (j, to, i.before j u)) (λ u. (j - 1, omega arith, grind (arith, o.fits, i.onward (j - 1)))))
       (cases_order j k))
       (λ j to h. let t = removed_back j (holds_below removed_ordered j a s to h) in (t.0, omega (arith, t.1, o.fits), t.2))
 

@@ -1,5 +1,5 @@
 -- The order of the held records, and what it says of the counts. Assumes nothing.
-use Rattle.std.specs.Prelude.{◌≡◌, ℕ, zero, suc, ◌-◌, ◌/◌, ◌%◌, ◌<◌, ◌≤◌, true, false, ◌⊎◌, List, pos, ◌≢◌}
+use Rattle.std.specs.Prelude.{◌≡◌, ℕ, zero, suc, ◌-◌, ◌/◌, ◌%◌, ◌<◌, ◌≤◌, true, false, ◌⊎◌, List, pos, ◌≢◌, refl}
 use Rattle.std.proofs.Common.{sym, ap, subst, ◌∙◌}
 use Rattle.std.proofs.Math.Logic.{⊎_elim}
 use native.Mathlib.Omega.{arith}
@@ -16,6 +16,17 @@ use Rattle.entries.specs.Holds.{Holds, held_cases, held_none}
 -- what rises strictly does not fall
 pub rises_to : (xs : List Holding) (n : ℕ) → Rises xs n → (j k : ℕ) → j ≤ k → k < n → place_of (nth xs j) ≤ place_of (nth xs k)
 rises_to xs n up j k le lt = grind (arith, up j k)
+
+-- past a place that no record has, the records lie above it
+pub gap_from : (xs : List Holding) (n p k : ℕ) → Rises xs n → Parts xs n p k → (k < n → place_of (nth xs k) ≢ p) → Gap xs n p k
+gap_from xs n p k up c ne = record {
+  within = c.within;
+  before = c.before;
+  onward = λ j g l.
+      let first = c.onward k (omega arith) (omega arith) in
+      let h = rises_to xs n up k j g l in
+      ⊎_elim (λ e. absurd (ne (omega arith) e)) (λ other. omega arith) (cases_eq (place_of (nth xs k)) p);
+}
 
 -- a cell's place tells the cell
 pub place_parts : (a s b r : ℕ) → s < 64 → r < 64 → place a s ≡ place b r → (a ≡ b) × (s ≡ r)
@@ -44,6 +55,10 @@ module _ {xs : List Holding} {n end : ℕ} (o : Ordered xs n end) where
       f.count ∙ ap (λ m. (nth xs m).held) same)
       (λ m. absurd (m.none k l h))
       (held_cases xs end a s)
+
+  -- a held record is its own cell's
+  pub live_holds : (k : ℕ) → k < n → Holds (nth xs k) (nth xs k).account (nth xs k).series
+  live_holds k l = record { held = (o.known k l).2; account = refl; series = refl }
 
   -- the count of the cell of a held record
   pub held_live : (k a s : ℕ) → s < 64 → k < n → place_of (nth xs k) ≡ place a s → held_in xs end a s ≡ (nth xs k).held

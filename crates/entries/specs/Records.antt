@@ -77,9 +77,9 @@ pub record Inserted (xs ys : List Holding) (k end : ℕ) (e : Holding) : Type 0 
   pub onward : (j : ℕ) → k < j → j ≤ end → nth ys j ≡ nth xs (j - 1)
   pub past : (j : ℕ) → end < j → nth ys j ≡ nth xs j
 
--- the record at k is taken out: from there up to an end each record moves down by one, and leaves a free one at the end
+-- the record at k is taken out: from there up to an end each record moves down by one, and leaves a blank one at the end
 pub record Removed (xs ys : List Holding) (k end : ℕ) : Type 0 where
   pub before : (j : ℕ) → j < k → nth ys j ≡ nth xs j
   pub onward : (j : ℕ) → k ≤ j → j < end → nth ys j ≡ nth xs (j + 1)
-  pub free : (nth ys end).held ≡ pos 0
+  pub free : nth ys end ≡ blank
   pub past : (j : ℕ) → end < j → nth ys j ≡ nth xs j

@@ -29,12 +29,12 @@ pub fn first_greatest<T: Ord>(list: &[T]) -> Option<Peak>
     ensures within { MatchOption result (length list.now ≡ 0) (λ p. p.first < length list.now) }
     ensures greatest { FirstGreatest T.cmp list.now result }
 {
-    let mut greatest = list.first()?;
+    let (mut greatest, rest) = list.split_first()?;
     let mut first = 0;
-    for (i, x) in list.iter().enumerate().skip(1) {
+    for (i, x) in rest.iter().enumerate() {
         if exceeds(x, greatest) {
             greatest = x;
-            first = i;
+            first = i + 1;
         }
     }
     Some(Peak { first })

@@ -1,17 +1,15 @@
 -- The digits at the start of a text. Assumes nothing.
-use Rattle.std.proofs.Common.{◌≡◌, ℕ, suc, zero, ◌+◌, ◌-◌, ◌*◌, ◌<◌, ◌≤◌, min, true, false, List, [], ◌∷◌, ◌++◌, length, get_or, take, drop, ℤ, Some, Ok, Err, Result, MatchResult, IsOk, IsUtf8, take_while, ◌≢◌, fold, sym, refl, ap, ◌∙◌, subst, inl, inr, add-zero, arith, rules, tests, w64}
+use Rattle.std.proofs.Common.{◌≡◌, ℕ, suc, zero, ◌+◌, ◌-◌, ◌*◌, ◌^◌, ◌<◌, ◌≤◌, min, true, false, List, [], ◌∷◌, ◌++◌, length, get_or, take, drop, ℤ, pos, Some, None, take_while, ◌≢◌, fold, sym, refl, ap, ◌∙◌, subst, inl, inr, add-zero, add-one, pow-suc, arith, rules, tests}
+use native.Mathlib.Nat.{pow-le-pow_right}
 use Rattle.std.specs.List.{prefix_len, AllByRecursion}
 use Rattle.std.specs.Char.{is_ascii_digit}
-use Rattle.std.specs.Result.{result_ok}
-use Rattle.std.specs.Str.Parse.{ParsesSigned}
 use Rattle.std.proofs.lemmas.List.Folds.{length-prefix_len}
 use Rattle.std.proofs.lemmas.List.{length-take, take-append-drop, length-take-le, length-append, length-drop, get_or-take, get_or-drop}
 use Rattle.std.proofs.lemmas.List.Sums.{prefix_len-le-length, prefix_len_passes, prefix_len_stops}
 use Rattle.std.proofs.lemmas.Option.{slice_get_within, get_or_from_slice_get}
-use Rattle.std.proofs.lemmas.Str.Parse.{IsNumeralModel, numerals_by_fold, parse_signed_digits, digits_value_short}
+use Rattle.std.proofs.lemmas.Str.Parse.{IsNumeralModel, numerals_by_fold}
 use Rattle.std.proofs.lemmas.Bool.{cases_lt, both_ways}
-use Rattle.std.proofs.ByRecursion.{all_from_every, All-weaker, IsAscii-from_all}
-use Rattle.std.proofs.lemmas.Str.{IsUtf8-from_ascii}
+use Rattle.std.proofs.ByRecursion.{all_from_every, All-get_or}
 use Rattle.lines.specs.Fields.{Digit, value, Leads}
 use Rattle.lines.specs.Reading.{first, Numeral, Spans, Ends, DigitsRead}
 use Rattle.lines.proofs.Splits.{all_middle}
@@ -70,7 +68,7 @@ counted_spans s n h e =
       ];
     }
 
--- the words of `parse`
+-- digits are words of the library's numerals
 pub numerals : IsNumeralModel (AllByRecursion Digit) value
 numerals = numerals_by_fold (AllByRecursion Digit) (search rules) (λ n ds. fold (λ m d. m * 10 + (d - 48)) n ds) (search rules)
 
@@ -78,37 +76,37 @@ numerals = numerals_by_fold (AllByRecursion Digit) (search rules) (λ n ds. fold
 none_parsed : (s : List ℕ) (n : ℕ) → Spans s n → n ≡ 0 → (b : ℕ) → Some b ≡ first s → Digit b → ⊥
 none_parsed s n h z b e d = subst (λ m. Ends Numeral (take m s) (drop m s)) z h.ends b [] e (b - 48, record { decimal = record { digits = (d, tt); leads = λ _. refl; stands = omega arith }; few = omega arith })
 
--- digits as they are parsed
-pub digits_read : {E : Type 0} (s : List ℕ) (from n : ℕ) (text rest : List ℕ) (v : Result ℤ E) → Spans s n → text ≡ take n s → rest ≡ drop n s → ParsesSigned w64 10 text v → DigitsRead s from (result_ok v) (from + n) rest
-digits_read {E} s from n text rest (Ok z) h e d p =
+-- no digits
+pub none_read : (s : List ℕ) (from n after : ℕ) (rest : List ℕ) → Spans s n → n ≡ 0 → after ≡ from → DigitsRead s from None after rest
+none_read s from n after rest h z e = (e, none_parsed s n h z)
+
+-- the digits that are taken
+pub some_read : (s : List ℕ) (from n after : ℕ) (text rest : List ℕ) (z : ℤ) → Spans s n → n ≢ 0 → text ≡ take n s → rest ≡ drop n s → after ≡ from + n → z ≡ pos (value text) → DigitsRead s from (Some z) after rest
+some_read s from n after text rest z h ne e d a v =
     let all = subst (AllByRecursion Digit) (sym e) h.digits in
-    let o = parse_signed_digits numerals {E = E} w64 text (Ok z) p all in
     let l : length text ≡ n = ap length e ∙ length-take-le n s h.within in (
       value text,
-      o.1,
+      v,
       record {
         text = text;
         split = sym (take-append-drop n s) ∙ ap (λ x. x ++ drop n s) (sym e) ∙ ap (λ x. text ++ x) (sym d);
         reads = record {
-          decimal = record { digits = all; leads = subst Leads (sym e) (h.leads (λ y. let q = o.0.0 in omega arith)); stands = refl };
+          decimal = record { digits = all; leads = subst Leads (sym e) (h.leads ne); stands = refl };
           few = let f = h.few in omega arith;
         };
         ends = λ b u x g. h.ends b u (x ∙ ap first d) (subst (λ t. Numeral (t ++ b ∷ u)) e g);
         column = omega arith;
       },
     )
-digits_read {E} s from n text rest (Err f) h e d p =
-    let all = subst (AllByRecursion Digit) (sym e) h.digits in
-    let o = parse_signed_digits numerals {E = E} w64 text (Err f) p all in
-    let l : length text ≡ n = ap length e ∙ length-take-le n s h.within in
-    let k = h.few in
-    let z : n ≡ 0 = elim (cases_lt 0 n) [
-      | inl lt ↦ absurd (o (omega arith, omega (arith, digits_value_short numerals text 18 all (omega arith))))
-      | inr le ↦ omega arith
-    ] in
-    (omega arith, none_parsed s n h z)
 
--- digits are text
-pub digits_text : {X E : Type 0} (P : X → Type 0) (Q : E → Type 0) (ds : List ℕ) (r : Result X E) → AllByRecursion Digit ds → MatchResult r P (λ e. ¬ (IsUtf8 ds) × Q e) → IsOk r
-digits_text P Q ds (Ok x) all h = refl
-digits_text P Q ds (Err f) all h = absurd (h.0 (IsUtf8-from_ascii ds (IsAscii-from_all ds (All-weaker Digit (λ b. b < 128) (λ b d. omega (arith, d.1)) ds all))))
+-- what holds of all holds of one
+pub digit_at : (s : List ℕ) (i : ℕ) → i < length s → AllByRecursion Digit s → Digit (get_or s i 0)
+digit_at s i l a = All-get_or Digit s i 0 l a
+
+-- one digit more of a number below 10 ^ n
+pub ten_more : (v n d : ℕ) → v < 10 ^ n → d < 10 → v * 10 + d < 10 ^ (n + 1)
+ten_more v n d h l = rw (add-one n, pow-suc 10 n) (omega arith)
+
+-- 18 digits at most
+pub ten_bound : (v n : ℕ) → v < 10 ^ n → n ≤ 18 → v < 10 ^ 18
+ten_bound v n h l = omega (arith, pow-le-pow_right {n = 10} (omega arith) l)

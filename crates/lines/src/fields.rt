@@ -1,8 +1,8 @@
 // The fields of a line, one after another: a space and a number each.
-ghost use Rattle.std.specs.Prelude.{◌≡◌, ◌+◌, ◌^◌, ◌<◌, take, length, take_while};
+ghost use Rattle.std.specs.Prelude.{◌≡◌, ◌+◌, ◌^◌, ◌<◌, ◌≤◌, take, length, pos, take_while};
+ghost use Rattle.std.specs.List.{AllByRecursion};
 ghost use Rattle.std.specs.Char.{is_ascii_digit};
-
-use std::str;
+ghost use Rattle.lines.specs.Fields.{Digit, value};
 
 // What a field takes: a number without a sign, or one that may have a minus sign. Kinds and not closures that read, since
 // the definition of a line lists the kinds of its fields.
@@ -23,6 +23,19 @@ fn count_digits(s: &[u8]) -> usize
         .take_while(|b| b.is_ascii_digit())
         .take(MOST_DIGITS)
         .count()
+}
+
+// The number that at most 18 digits stand for. No `parse`, which looks at each of them three times.
+fn decimal(digits: &[u8]) -> i64
+    requires few { length digits.now ≤ 18 }
+    requires all { AllByRecursion Digit digits.now }
+    ensures { result ≡ pos (value digits.now) }
+{
+    let mut n = 0u64;
+    for b in digits {
+        n = n * 10 + u64::from(*b - b'0');
+    }
+    n as i64
 }
 
 // The part of a line that is left to read, and the column where it begins.
@@ -51,10 +64,14 @@ impl<'a> Reader<'a> {
     fn digits(&mut self) -> Option<i64>
         ensures { DigitsRead self.old.rest.now self.old.column result self.new.column self.new.rest.now }
     {
-        let (digits, rest) = self.rest.split_at(self.number_length());
+        let n = self.number_length();
+        let (digits, rest) = self.rest.split_at(n);
         self.rest = rest;
-        self.column += digits.len();
-        str::from_utf8(digits).unwrap().parse().ok()
+        self.column += n;
+        if n == 0 {
+            return None;
+        }
+        Some(decimal(digits))
     }
 
     // The number that comes next. A minus sign stands only before a number above 0.

@@ -3,7 +3,7 @@ use Rattle.std.specs.Prelude.{◌≡◌, ◌≢◌, ◌<◌, true, ◌&&◌, ℤ
 use Rattle.std.proofs.Common.{Option, sym, ap, subst, ◌∙◌, ⊎_elim, arith, w64, to_z, of_z}
 use Rattle.std.proofs.lemmas.Int.{ints, clamps}
 use Rattle.ledger.specs.declared.actions.Action.{Action}
-use Rattle.ledger.specs.declared.actions.Action.TheVariants.{Fill, PlaceBuy, PlaceSell, AddCover, TakeCover}
+use Rattle.ledger.specs.declared.actions.Action.TheVariants.{Fill, PlaceBuy, PlaceSell, CancelBuy, CancelSell, ExecuteBuy, ExecuteSell, AddCover, TakeCover}
 use Rattle.ledger.specs.declared.faults.Reason.TheVariants.{Rest}
 use Rattle.ledger.specs.declared.cells.Cell.{Cell}
 use Rattle.ledger.specs.declared.cells.Quote.{Quote}
@@ -19,7 +19,7 @@ use Rattle.tables.specs.declared.Table.{Table}
 use Rattle.tables.specs.Tables.{at, Wrote}
 use Rattle.tables.proofs.Writes.{same_cell}
 use Rattle.tables.proofs.Bounded.{wrote_up_to, none_beyond, wrote_here, wrote_bounded}
-use Rattle.orders.specs.Resting.{most_rest, RestIn, Resting, order_cell, Plain, order_sent, enough, widened, in_reach, order_answer, buys_after, sells_after, order_meaning}
+use Rattle.orders.specs.Resting.{most_rest, RestIn, Resting, Near, order_cell, Plain, order_sent, enough, widened, in_reach, order_answer, buys_after, sells_after, order_meaning}
 
 -- an answer that is no refusal, where b and s rest after it
 pub record Carried (m : Meaning) (i : Instruction) (b s : ℤ) (q : Quote) : Type 0 where
@@ -219,3 +219,21 @@ module _ {X : Type 0} (meaning : X → Meaning) (x y : X) (lawful : Lawful (mean
     plain = λ p. record { low = λ c t. (plain p c t).0; high = λ c t. (plain p c t).1 };
     passed = went;
   }
+
+-- an action moves what rests by no more than its amount
+step_in : (u : Action) (n : ℤ) → Within n → Within (step u n).buys × Within (step u n).sells
+step_in Fill n w = ((omega (arith, ints), omega (arith, ints)), (omega (arith, ints), omega (arith, ints)))
+step_in PlaceBuy n w = (w, (omega (arith, ints), omega (arith, ints)))
+step_in PlaceSell n w = ((omega (arith, ints), omega (arith, ints)), w)
+step_in CancelBuy n w = ((omega (arith, ints), omega (arith, ints)), (omega (arith, ints), omega (arith, ints)))
+step_in CancelSell n w = ((omega (arith, ints), omega (arith, ints)), (omega (arith, ints), omega (arith, ints)))
+step_in ExecuteBuy n w = ((omega (arith, ints), omega (arith, ints)), (omega (arith, ints), omega (arith, ints)))
+step_in ExecuteSell n w = ((omega (arith, ints), omega (arith, ints)), (omega (arith, ints), omega (arith, ints)))
+step_in AddCover n w = ((omega (arith, ints), omega (arith, ints)), (omega (arith, ints), omega (arith, ints)))
+step_in TakeCover n w = ((omega (arith, ints), omega (arith, ints)), (omega (arith, ints), omega (arith, ints)))
+
+-- what rests stays near to 0
+pub near_after : (u : Action) (n b s : ℤ) → Within n → RestIn b → RestIn s → Near (b +ℤ (step u n).buys) × Near (s +ℤ (step u n).sells)
+near_after u n b s w p r =
+    let k = step_in u n w in
+    ((omega (arith, ints), omega (arith, ints)), (omega (arith, ints), omega (arith, ints)))

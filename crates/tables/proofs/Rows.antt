@@ -18,7 +18,7 @@ unfolding number
 number_zero xs n a s zero = grind (arith, nat_tests, zero (64 * a + s))
 
 -- each number of a row is that of a cell
-number_at : (xs : List ℤ) (n k : ℕ) → k < 64 * n → number xs n (k / 64) (k % 64) ≡ get_or xs k (pos 0)
+pub number_at : (xs : List ℤ) (n k : ℕ) → k < 64 * n → number xs n (k / 64) (k % 64) ≡ get_or xs k (pos 0)
 number_at xs n k h = grind (arith, number_in xs n (k / 64) (k % 64))
 
 -- the first n rows are 0 exactly where their cells are

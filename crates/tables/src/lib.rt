@@ -88,6 +88,12 @@ impl Table {
         ensures { Decides result (AllZero self.now) }
     {
         let end = self.rows() * SERIES;
-        self.numbers[..end].iter().all(|n| *n == 0)
+        // No `all`, which takes half as long again.
+        for n in &self.numbers[..end] {
+            if *n != 0 {
+                return false;
+            }
+        }
+        true
     }
 }

@@ -7,7 +7,7 @@ ghost use Rattle.entries.specs.Laws.{entry_lawful, entry_laws, keeps_capacity, k
 use super::EntryBook;
 use ledger::books::{Book, Holding, fill_quote};
 use ledger::cells::{Cell, Instruction, Quote};
-use ledger::checks::WIDTH;
+use ledger::checks::{WIDTH, check, is_fill};
 use ledger::faults::Fault;
 use ledger::ledgers::Ledger;
 
@@ -34,8 +34,14 @@ impl Ledger for EntryBook {
         Cell::of_count(self.count(account, series))
     }
 
+    // A cell is looked up only where the answer rests on what it holds.
     fn quote(&self, i: Instruction) -> Result<Quote, Fault> {
-        let before = self.count(i.account, i.series);
+        check(WIDTH, i)?;
+        let before = if is_fill(i.action) {
+            self.count(i.account, i.series)
+        } else {
+            0
+        };
         fill_quote(WIDTH, before, self.is_full(before), i)
     }
 

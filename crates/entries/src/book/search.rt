@@ -34,7 +34,7 @@ impl EntryBook {
     pub(super) fn count(&self, account: usize, series: usize) -> i64
         ensures { result ≡ held_at self.now account series }
     {
-        if series >= WIDTH {
+        if account >= WIDTH || series >= WIDTH {
             return 0;
         }
         match self.find(account, series) {

@@ -41,7 +41,8 @@ impl EntryBook {
         ensures wrote { Wrote self.old self.new e.account e.series e.held }
         ensures kept { Keeps self.old self.new }
     {
-        put_in(&mut self.records, k, self.live, e);
+        let last = self.capacity() - 1;
+        put_in(&mut self.records, k, last, e);
         self.live += 1;
     }
 
@@ -51,8 +52,9 @@ impl EntryBook {
         ensures wrote { Wrote self.old self.new (nth (items self.old) k).account (nth (items self.old) k).series (pos 0) }
         ensures kept { Keeps self.old self.new }
     {
+        let last = self.capacity() - 1;
+        take_out(&mut self.records, k, last);
         self.live -= 1;
-        take_out(&mut self.records, k, self.live);
     }
 
     // Sets the count of a cell. A cell with none becomes held where there is room.

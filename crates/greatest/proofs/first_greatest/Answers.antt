@@ -1,25 +1,16 @@
-use Rattle.std.proofs.Common.{◌≡◌, ◌+◌, ◌<◌, length, get_or, length-append}
-use Rattle.std.proofs.lemmas.Iterator.{YieldsList-from_slice}
-use Rattle.std.proofs.lemmas.Iterator.Adapters.{YieldsList-from_skip}
-use Rattle.std.proofs.lemmas.Iterator.Consumers.{YieldsList-from_enumerate, YieldsList-turn}
-use Rattle.greatest.proofs.Turns.{next_entry, turn_takes, turn_keeps}
-use Rattle.greatest.proofs.first_greatest.Given as given
+use Rattle.std.proofs.Common.{◌+◌, ◌<◌, length, arith}
+use Rattle.greatest.proofs.Turns.{behind_first, turn_takes, turn_keeps}
 use Rattle.greatest.proofs.first_greatest.Goals as goal
-use Rattle.greatest.proofs.first_greatest.Goals.{After-exceeds}
-
--- the entry that this turn looks at
-next : (g : given.Over) (c : After-exceeds g) → (c.in-Some.i ≡ length c.loop-i.yielded + 1) × (c.in-Some.i < length c.args.list.now) × (c.in-Some.x.now ≡ get_or c.args.list.now c.in-Some.i c.in-Some.x.now)
-next g c =
-    let rest = YieldsList-from_skip 1 (YieldsList-from_enumerate (YieldsList-from_slice c.args.list.now (cc)) (cc)) (cc) in
-    let turn = YieldsList-turn rest c.loop-i.yielded _ c.loop-i.yielded_by _ _ (c.in-Some.i, c.in-Some.x) c.in-Some.is c.next.ensures.steps in
-    next_entry c.args.list.now (length c.loop-i.yielded) _ _ turn.0 turn.1
-
-pub loop-i-preserved-then-exceeds : goal.loop-i-preserved-then-exceeds
-loop-i-preserved-then-exceeds g c =
-    let entry = next g (goal.at.loop-i-preserved-then-exceeds g c).After-exceeds in
-    rw length-append (turn_takes g.met.T.Ord.total c.args.list.now _ _ _ _ _ c.loop-i.invariant.0 entry c.loop-i.invariant.1 (rw c.exceeds.ensures at c.if-exceeds.true), entry.2)
+use Rattle.greatest.proofs.first_greatest.Goals.{then-exceeds, else-exceeds}
 
 pub loop-i-preserved : goal.loop-i-preserved
 loop-i-preserved g c =
-    let entry = next g (goal.at.loop-i-preserved g c).After-exceeds in
-    rw length-append (turn_keeps g.met.T.Ord.total c.args.list.now _ _ _ _ _ c.loop-i.invariant.0 entry c.loop-i.invariant.1 (rw c.exceeds.ensures at c.if-exceeds.false), c.loop-i.invariant.1)
+    let cut = c.in_ok-greatest.ensures.cases in
+    let there = behind_first _ _ _ _ c.loop-i.i cut.0 c.index-rest-i.is in
+    let within : c.loop-i.i + 1 < length c.args.list.now = omega (arith, cut.1, c.loop-i-test.true) in
+    let o = g.met.T.Ord.total in
+    let so_far = c.loop-i.invariant in
+    elim c.if-exceeds.branch [
+      | then-exceeds w ↦ rw (w.first-is, w.greatest-is) (turn_takes o c.args.list.now (c.loop-i.i + 1) c.loop-i.first _ _ so_far.0 within there so_far.1 (rw c.exceeds.ensures at w.if-exceeds.true), there)
+      | else-exceeds w ↦ rw (w.first-is, w.greatest-is) (turn_keeps o c.args.list.now (c.loop-i.i + 1) c.loop-i.first _ _ so_far.0 within there so_far.1 (rw c.exceeds.ensures at w.if-exceeds.false), so_far.1)
+    ]

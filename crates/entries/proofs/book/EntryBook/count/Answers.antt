@@ -1,12 +1,12 @@
-use Rattle.std.proofs.Common.{sym, ◌∙◌, inr, get_or-take, w64, SFits, rules}
+use Rattle.std.proofs.Common.{sym, ◌∙◌, inl, inr, ⊎_elim, get_or-take, w64, SFits, rules}
 use Rattle.std.proofs.lemmas.Int.{to_z-of_z}
 use Rattle.entries.specs.Records.{blank, nth}
 use Rattle.entries.specs.Books.{items}
 use Rattle.entries.specs.Orders.{held_live, held_gap, held_beyond}
 use Rattle.entries.proofs.book.EntryBook.count.Goals as goal
 
-pub returns-then-series-ge-WIDTH : goal.returns-then-series-ge-WIDTH
-returns-then-series-ge-WIDTH c = sym (held_beyond c.args.self.now.ordered _ _ (inr c.if-series-ge-WIDTH.true))
+pub returns-then-account-ge-WIDTH : goal.returns-then-account-ge-WIDTH
+returns-then-account-ge-WIDTH c = sym (held_beyond c.args.self.now.ordered _ _ (⊎_elim (λ a. inl a) (λ s. inr s.1) c.then-account-ge-WIDTH.either))
 
 pub returns-in-Ok : goal.returns-in-Ok
 returns-in-Ok c =
