@@ -1,37 +1,37 @@
 -- What a search by account and series finds among records. Assumes nothing.
 use Rattle.std.specs.Prelude.{◌≡◌, ℕ, ◌<◌, ◌≤◌, List, Ok, Err, Result}
-use Rattle.std.proofs.Common.{sym, ◌∙◌, arith, take, length, length-take-le, get_or-take}
+use Rattle.std.proofs.Common.{sym, ap, ◌∙◌, arith, take, length, length-take-le, get_or-take}
 use Rattle.std.specs.List.Sorted.{IsSearchInRange, IsBinarySearchResult, IsNonDecreasingBy}
-use Rattle.std.specs.Ordering.{nat_cmp, ordering_then, ordering_index}
+use Rattle.std.specs.Ordering.{nat_cmp, ordering_index}
 use Rattle.std.specs.declared.cmp.Ordering.{Ordering}
 use Rattle.std.proofs.lemmas.List.Sorted.{IsNonDecreasingBy-from_default}
 use Rattle.std.proofs.lemmas.Cmp.{ranked}
 use Rattle.std.proofs.lemmas.Bool.Decides.{nat_tests}
 use Rattle.ledger.specs.declared.books.Holding.{Holding}
 use Rattle.ledger.specs.Listing.{place}
-use Rattle.entries.specs.Records.{blank, nth, place_of, Rises, Known, Gap, Parts, Sought}
+use Rattle.entries.specs.Records.{blank, nth, place_of, wrapped_place, Rises, Known, Gap, Parts, Sought}
 use Rattle.entries.specs.Orders.{rises_to}
 
--- records by their account, then by their series
-abbrev pub cell_cmp : Holding → ℕ → ℕ → Ordering
-cell_cmp e a s = ordering_then (nat_cmp e.account a) (nat_cmp e.series s)
+-- records by their place
+abbrev pub cell_cmp : Holding → ℕ → Ordering
+cell_cmp e p = nat_cmp (wrapped_place e) p
 
--- which is by their places
-cell_cmp-place : (e : Holding) (a s : ℕ) → e.series < 64 → s < 64 → cell_cmp e a s ≡ nat_cmp (place_of e) (place a s)
-cell_cmp-place e a s l m = grind (arith, nat_tests)
+-- that of a held record does not wrap
+unwrapped : (e : Holding) → e.account < 64 → e.series < 64 → wrapped_place e ≡ place_of e
+unwrapped e l m = omega arith
 
 module _ (xs : List Holding) (n a s : ℕ) (long : n ≤ length xs) (rises : Rises xs n) (known : Known xs n) (small : s < 64) where
   -- a record that is searched, by its place
-  at_place : (k : ℕ) → k < n → cell_cmp (nth (take n xs) k) a s ≡ nat_cmp (place_of (nth xs k)) (place a s)
-  at_place k l = rw (get_or-take n xs k blank l) (cell_cmp-place (nth xs k) a s (known k l).1 small)
+  at_place : (k : ℕ) → k < n → cell_cmp (nth (take n xs) k) (place a s) ≡ nat_cmp (place_of (nth xs k)) (place a s)
+  at_place k l = rw (get_or-take n xs k blank l) (ap (λ p. nat_cmp p (place a s)) (unwrapped (nth xs k) (known k l).0 (known k l).1))
 
-  ranks_rise : IsNonDecreasingBy (λ e. ordering_index (cell_cmp e a s)) (take n xs)
-  ranks_rise = IsNonDecreasingBy-from_default (λ e. ordering_index (cell_cmp e a s)) (take n xs) blank (λ i j le l.
+  ranks_rise : IsNonDecreasingBy (λ e. ordering_index (cell_cmp e (place a s))) (take n xs)
+  ranks_rise = IsNonDecreasingBy-from_default (λ e. ordering_index (cell_cmp e (place a s))) (take n xs) blank (λ i j le l.
       let m : j < n = omega (arith, length-take-le n xs long) in
       let up = rises_to xs n rises i j le m in
       rw (at_place i (omega arith), at_place j m) (grind (arith, nat_tests)))
 
-  pub searched : (r : Result ℕ ℕ) → IsSearchInRange r (length (take n xs)) → IsBinarySearchResult (λ e. cell_cmp e a s) (take n xs) r → Sought xs n (place a s) r
+  pub searched : (r : Result ℕ ℕ) → IsSearchInRange r (length (take n xs)) → IsBinarySearchResult (λ e. cell_cmp e (place a s)) (take n xs) r → Sought xs n (place a s) r
   searched (Ok k) l equal =
       let m : k < n = omega (arith, length-take-le n xs long) in
       (m, ranked _ _ _ (sym (equal blank) ∙ at_place k m))

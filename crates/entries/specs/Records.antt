@@ -1,5 +1,5 @@
 -- Records of held cells. Assumes nothing.
-use Rattle.std.specs.Prelude.{◌≡◌, ℕ, zero, suc, ◌+◌, ◌-◌, ◌<◌, ◌≤◌, min, Bool, true, cond, ◌&&◌, List, ℤ, pos, Ok, Err, Result, ◌==◌, slice_index_or}
+use Rattle.std.specs.Prelude.{◌≡◌, ℕ, zero, suc, ◌+◌, ◌-◌, ◌%◌, ◌^◌, ◌<◌, ◌≤◌, min, Bool, true, cond, ◌&&◌, List, ℤ, pos, Ok, Err, Result, ◌==◌, slice_index_or}
 use Rattle.ledger.specs.Actions.{Within, nonzero}
 use Rattle.ledger.specs.Listing.{place}
 use Rattle.ledger.specs.declared.books.Holding.{Holding}
@@ -20,6 +20,10 @@ room len = min 4096 len
 
 abbrev pub place_of : Holding → ℕ
 place_of e = place e.account e.series
+
+-- the same, as 64 bits hold it
+abbrev pub wrapped_place : Holding → ℕ
+wrapped_place e = (place_of e) % (2 ^ 64)
 
 -- the record is the cell's
 abbrev pub is_of : Holding → ℕ → ℕ → Bool

@@ -25,7 +25,8 @@ fn count_digits(s: &[u8]) -> usize
         .count()
 }
 
-// The number that at most 18 digits stand for. No `parse`, which looks at each of them three times.
+// The number that at most 18 digits stand for. Not by `parse`: it takes a text, so that the bytes are looked through once more,
+// and a line takes twice as long.
 fn decimal(digits: &[u8]) -> i64
     requires few { length digits.now ≤ 18 }
     requires all { AllByRecursion Digit digits.now }

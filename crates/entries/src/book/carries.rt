@@ -8,7 +8,7 @@ use super::EntryBook;
 use ledger::books::{Book, Holding, fill_quote};
 use ledger::cells::{Cell, Instruction, Quote};
 use ledger::checks::{WIDTH, check, is_fill};
-use ledger::faults::Fault;
+use ledger::faults::{Fault, Reason};
 use ledger::ledgers::Ledger;
 
 impl Ledger for EntryBook {
@@ -34,14 +34,13 @@ impl Ledger for EntryBook {
         Cell::of_count(self.count(account, series))
     }
 
-    // A cell is looked up only where the answer rests on what it holds.
+    // What it refuses whatever it holds, it refuses before it looks a cell up.
     fn quote(&self, i: Instruction) -> Result<Quote, Fault> {
         check(WIDTH, i)?;
-        let before = if is_fill(i.action) {
-            self.count(i.account, i.series)
-        } else {
-            0
-        };
+        if !is_fill(i.action) {
+            return Err(Fault::found(Reason::NoTaker));
+        }
+        let before = self.count(i.account, i.series);
         fill_quote(WIDTH, before, self.is_full(before), i)
     }
 

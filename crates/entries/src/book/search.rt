@@ -1,9 +1,9 @@
 // Look-ups by binary search.
-ghost use Rattle.std.specs.Prelude.{◌≡◌, ℕ, ◌<◌, not, ◌&&◌, ◌==◌, take};
+ghost use Rattle.std.specs.Prelude.{◌≡◌, ℕ, ◌<◌, ◌^◌, not, ◌&&◌, ◌==◌, take};
 ghost use Rattle.ledger.specs.Actions.{nonzero};
 ghost use Rattle.ledger.specs.Books.{held_cells};
 ghost use Rattle.ledger.specs.Listing.{place};
-ghost use Rattle.entries.specs.Records.{Sought};
+ghost use Rattle.entries.specs.Records.{Sought, wrapped_place};
 ghost use Rattle.entries.specs.Books.{items, held_at, capacity_of};
 
 use super::EntryBook;
@@ -13,6 +13,13 @@ use ledger::checks::WIDTH;
 // The most cells that a book holds.
 pub(super) const MOST: usize = WIDTH * WIDTH;
 
+// The place of a record, which for a held one does not wrap.
+fn place_of(e: &Holding) -> usize
+    ensures { result ≡ wrapped_place e.now }
+{
+    WIDTH.wrapping_mul(e.account).wrapping_add(e.series)
+}
+
 impl EntryBook {
     // The held records.
     pub(super) fn held(&self) -> &[Holding]
@@ -21,13 +28,14 @@ impl EntryBook {
         &self.records[..self.live]
     }
 
-    // Where the record of a cell stands among the held ones, or where it would.
+    // Where the record of a cell stands among the held ones, or where it would. By place, one number: by account and series a
+    // look-up takes half as long again.
     pub(super) fn find(&self, account: usize, series: usize) -> Result<usize, usize>
-        requires { series < 64 }
+        requires { (account < 2 ^ 58) × (series < 64) }
         ensures { Sought (items self.now) self.now.live (place account series) result }
     {
-        self.held()
-            .binary_search_by_key(&(account, series), |e| (e.account, e.series))
+        let place = WIDTH * account + series;
+        self.held().binary_search_by_key(&place, place_of)
     }
 
     // The count held of a cell.
