@@ -29,7 +29,7 @@ pub record Carried (m : Meaning) (i : Instruction) (k : ℤ) (q : Quote) : Type 
   pub answers : asked m i.account i.series (cover_sent i.action i) ≡ Ok under
   pub is : q ≡ cover_quote under k
 
--- the same of any k, as the layer answers where k would be the cover
+-- where the answer by the rules of the layer, with k as the cover after it, is no refusal
 pub answer_ok : (m : Meaning) (i : Instruction) (k : ℤ) (q : Quote) → cover_answer m i k ≡ Ok q → Carried m i k q
 answer_ok m i k q p = of (asked m i.account i.series (cover_sent i.action i)) refl
   where
@@ -43,6 +43,7 @@ answer_ok m i k q p = of (asked m i.account i.series (cover_sent i.action i)) re
     }
     of (Err f) e = absurd (grind (arith, ints))
 
+-- and so of the cover that the layer has after the instruction
 pub cover_ok : (m : Meaning) (t : Table) (i : Instruction) (q : Quote) → (cover_meaning m t).quoted i ≡ Ok q → Carried m i (cover_after t i) q
 cover_ok m t i q p = answer_ok m i (cover_after t i) q p
 

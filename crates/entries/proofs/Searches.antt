@@ -1,4 +1,4 @@
--- What a search by account and series finds among records. Assumes nothing.
+-- What a search by place finds among records. Assumes nothing.
 use Rattle.std.specs.Prelude.{◌≡◌, ℕ, ◌<◌, ◌≤◌, List, Ok, Err, Result}
 use Rattle.std.proofs.Common.{sym, ap, ◌∙◌, arith, take, length, length-take-le, get_or-take}
 use Rattle.std.specs.List.Sorted.{IsSearchInRange, IsBinarySearchResult, IsNonDecreasingBy}

@@ -1,5 +1,5 @@
 -- Records after one is put in, taken out or written over. Assumes nothing.
-use Rattle.std.specs.Prelude.{◌≡◌, ℕ, ◌+◌, ◌-◌, ◌<◌, ◌≤◌, List, pos, ◌≢◌, length, slice_set, refl}
+use Rattle.std.specs.Prelude.{◌≡◌, ℕ, ◌+◌, ◌-◌, ◌<◌, List, pos, ◌≢◌, length, slice_set, refl}
 use Rattle.std.proofs.Common.{sym, ap, subst, ◌∙◌, ⊎_elim, arith, get_or-set_same, get_or-set_other}
 use Rattle.std.proofs.lemmas.Bool.{cases_lt, cases_eq, cases_order}
 use Rattle.ledger.specs.declared.books.Holding.{Holding}
@@ -26,7 +26,7 @@ same_count xs {ys} {m} {end} o a s there back =
     (held_cases xs end a s)
 
 -- the last record below the end is free, and serves for the new one
-module _ {xs ys : List Holding} {n k last end : ℕ} {e : Holding} (o : Ordered xs n end) (i : Inserted xs ys k last e) (gap : Gap xs n (place_of e) k) (room : n ≤ last) (below : last + 1 ≡ end) (live : Live e) where
+module _ {xs ys : List Holding} {n k last end : ℕ} {e : Holding} (o : Ordered xs n end) (i : Inserted xs ys k last e) (gap : Gap xs n (place_of e) k) (room : n < end) (last_is : last ≡ end - 1) (live : Live e) where
   new_at : (j : ℕ) → j ≡ k → nth ys j ≡ e
   new_at j q = ap (nth ys) q ∙ i.new
 
@@ -56,7 +56,7 @@ module _ {xs ys : List Holding} {n k last end : ℕ} {e : Holding} (o : Ordered 
       (⊎_elim (λ u. (j, l, sym (i.before j u))) (λ u. (j - 1, omega arith, sym (i.onward j u (omega arith)))))
       (cases_order j k))
 
-module _ {xs ys : List Holding} {n k last end : ℕ} (o : Ordered xs n end) (i : Removed xs ys k last) (l : k < n) (below : last + 1 ≡ end) where
+module _ {xs ys : List Holding} {n k last end : ℕ} (o : Ordered xs n end) (i : Removed xs ys k last) (l : k < n) (last_is : last ≡ end - 1) where
   pub removed_ordered : Ordered ys (n - 1) end
   removed_ordered = record {
     fits = omega (arith, o.fits);

@@ -1,5 +1,5 @@
 // Changes of one record.
-ghost use Rattle.std.specs.Prelude.{◌≡◌, ℕ, ◌<◌, ◌≤◌, length, pos};
+ghost use Rattle.std.specs.Prelude.{◌≡◌, ℕ, ◌-◌, ◌<◌, ◌≤◌, length, pos};
 ghost use Rattle.ledger.specs.Actions.{Within};
 ghost use Rattle.entries.specs.Records.{Live, Gap, Inserted, Removed, place_of, nth};
 ghost use Rattle.entries.specs.Books.{items, capacity_of, held_at, Keeps, Wrote};
@@ -33,11 +33,12 @@ fn take_out(records: &mut [Holding], k: usize, end: usize)
 
 // `Keeps` stays a clause of each write: it is of the book before and after, which no type of one book can say.
 impl EntryBook {
-    // Puts in the record of a cell that has none.
+    // Puts in the record of a cell that has none, over the last free one.
     fn insert_at(&mut self, k: usize, e: Holding)
         requires gap { Gap (items self.old) self.old.live (place_of e) k }
         requires live { Live e }
         requires room { self.old.live < capacity_of self.old }
+        ensures placed { Inserted (items self.old) (items self.new) k (capacity_of self.old - 1) e }
         ensures wrote { Wrote self.old self.new e.account e.series e.held }
         ensures kept { Keeps self.old self.new }
     {
@@ -46,9 +47,10 @@ impl EntryBook {
         self.live += 1;
     }
 
-    // Frees the record of a cell.
+    // Frees the record of a cell: it stands blank at the end of the capacity.
     fn remove_at(&mut self, k: usize)
         requires { k < self.old.live }
+        ensures freed { Removed (items self.old) (items self.new) k (capacity_of self.old - 1) }
         ensures wrote { Wrote self.old self.new (nth (items self.old) k).account (nth (items self.old) k).series (pos 0) }
         ensures kept { Keeps self.old self.new }
     {

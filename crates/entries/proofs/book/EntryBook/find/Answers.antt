@@ -5,7 +5,7 @@ use Rattle.entries.specs.Books.{items}
 use Rattle.entries.proofs.Searches.{searched}
 use Rattle.entries.proofs.book.EntryBook.find.Goals as goal
 
--- the key is the cell of a record
+-- the key is the place of a record
 pub returns : goal.returns
 returns c =
     let x = c.args.self.now in
